@@ -1,0 +1,11 @@
+//! The text of scripts and histories: how a script is read, and how a history is printed.
+#![tactic(auto)]
+
+mod error;
+mod number;
+mod print;
+mod script;
+
+pub use error::ScriptError;
+pub use print::print_history;
+pub use script::{Line, Script, read_script};
