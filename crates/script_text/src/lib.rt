@@ -5,6 +5,8 @@ mod error;
 mod number;
 mod print;
 mod script;
+#[cfg(test)]
+mod tests;
 
 pub use error::ScriptError;
 pub use print::print_history;
