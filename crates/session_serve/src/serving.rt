@@ -18,39 +18,37 @@ use script_text::{Line, Script, ScriptError, print_history, read_script};
 use std::alloc::Global;
 
 /// Answers the statement of a line, as the `ordinal`th.
-fn answer_line(engine: &mut Engine, ordinal: u32, line: &Line) -> Result<Entry, NoMemory>
-    requires { IsBuiltLine line.now }
-    ensures said { IfOk result (λ entry. IsEntryOf line.now entry) }
-    ensures ordinal { IfOk result (λ entry. entry.ordinal ≡ ordinal) }
-    ensures allowed { IfOk result (λ entry. IsAllowed engine.old 1 entry.call entry.reply) }
-    ensures room { IfOk result (λ entry. HadRoom entry.reply) }
-    ensures state { IfOk result (λ entry. engine.new ≡ next engine.old 1 entry.call entry.reply) }
-    ensures integers { IfOk result (λ entry. HasIntegers entry.reply) }
+fn answer_line(engine: &mut Engine, ordinal: u32, line: Line) -> Entry
+    requires { IsBuiltLine line }
+    ensures said { IsEntryOf line result }
+    ensures ordinal { result.ordinal ≡ ordinal }
+    ensures allowed { IsAllowed engine.old 1 result.call result.reply }
+    ensures room { HadRoom result.reply }
+    ensures state { engine.new ≡ next engine.old 1 result.call result.reply }
+    ensures integers { HasIntegers result.reply }
 {
     let Line::Say { call, .. } = line;
-    let said = call.copy()?;
-    Ok(Entry {
+    Entry {
         session: 1,
         ordinal,
-        reply: engine.answer(call),
-        call: said,
+        reply: engine.answer(&call),
+        call,
         answered: true,
-    })
+    }
 }
 
 /// Answers the statements of a script one after the other.
-fn answer_script(alloc: Global, script: &[Line]) -> Result<Vec<Entry>, NoMemory>
-    requires built { All IsBuiltLine script.now }
-    requires fits { length script.now < 2 ^ 32 }
-    ensures ran { IfOk result (λ history. IsHistoryOf one_empty_table script.now history.items) }
+fn answer_script(alloc: Global, script: Script) -> Result<Vec<Entry>, NoMemory>
+    requires { All IsBuiltLine script }
+    ensures ran { IfOk result (λ history. IsHistoryOf one_empty_table script history.items) }
     ensures integers { IfOk result (λ history. All (λ entry. HasIntegers entry.reply) history.items) }
 {
     let mut engine = Engine::new(alloc);
-    let mut history = Vec::new(alloc);
-    for line in script {
-        history.reserve(1)?;
-        let entry = answer_line(&mut engine, history.len() as u32 + 1, line)?;
-        history.push_reserved(entry);
+    let lines = script.into_vec();
+    let mut history = Vec::with_capacity(alloc, lines.len())?;
+    for line in lines {
+        let ordinal = history.len() as u32 + 1;
+        history.push_reserved(answer_line(&mut engine, ordinal, line));
     }
     Ok(history)
 }
@@ -72,13 +70,13 @@ fn write_text<O: Sink>(text: &[u8], out: &mut O) -> Status
 }
 
 /// Runs the script and writes its printed history.
-fn run_script<O: Sink>(alloc: Global, script: &Script, out: &mut O) -> Status
-    requires { All IsBuiltLine script.now }
-    ensures ran { PlayedScript result script.now (O.held out.old) (O.held out.new) }
+fn run_script<O: Sink>(alloc: Global, script: Script, out: &mut O) -> Status
+    requires { All IsBuiltLine script }
+    ensures ran { PlayedScript result script (O.held out.old) (O.held out.new) }
     ensures later { O.faults out.old ≤ O.faults out.new }
     ensures fault { result ≡ status.WriteFault → Rose (O.faults out.old) (O.faults out.new) }
 {
-    let Ok(history) = answer_script(alloc, script.as_slice()) else {
+    let Ok(history) = answer_script(alloc, script) else {
         return Status::NoMemory;
     };
     match print_history(alloc, &history) {
@@ -96,7 +94,7 @@ fn run_bytes<O: Sink>(alloc: Global, bytes: &[u8], out: &mut O) -> Status
     match read_script(alloc, bytes) {
         Err(ScriptError::BadLine { line, rule }) => Status::BadScript { line, rule },
         Err(ScriptError::NoMemory) => Status::NoMemory,
-        Ok(script) => run_script(alloc, &script, out),
+        Ok(script) => run_script(alloc, script, out),
     }
 }
 
