@@ -16,12 +16,6 @@ abbrev pub IsEntryOf : Line → Entry → Type 0
 IsEntryOf (line.Say speaker ordinal said) entry =
     (entry.session ≡ 1) × (entry.call ≡ said) × (entry.answered ≡ true)
 
--- the text was written: all of it, or a part from the front where the sink failed
-abbrev pub Wrote : Status → List ℕ → Option (List ℕ) → Option (List ℕ) → Type 0
-Wrote status.Done text before after = Appends before after text
-Wrote status.WriteFault text before after = AppendsFront before after text
-Wrote other text before after = ⊥
-
 -- the printed history of a run of the script was written
 pub record PrintedRun (Writes : Option (List ℕ) → Option (List ℕ) → List ℕ → Type 0) (script : List Line) (before after : Option (List ℕ)) : Type 0 where
   pub history : List Entry

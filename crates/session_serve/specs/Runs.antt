@@ -107,6 +107,12 @@ Ends status.WriteFault command before after = OfJob command (λ job. DidJob job 
 Ends status.NoMemory command before after = Unwritten before after
 Ends status.InputTooLong command before after = OfJob command (λ job. Unit {0}) × Unwritten before after
 
+-- this holds, unless the text was due: only then is the output written
+abbrev pub UnlessWritten : Status → Type 0 → Type 0
+UnlessWritten status.Done claim = Unit {0}
+UnlessWritten status.WriteFault claim = Unit {0}
+UnlessWritten other claim = claim
+
 -- the input is too long exactly where one byte past the limit was taken, and no more are taken
 abbrev pub TakesInput : Status → Option (List ℕ) → Option (List ℕ) → Type 0
 TakesInput given before after =

@@ -1,18 +1,19 @@
-ghost use Rattle.std.specs.Prelude.{◌≡◌, ◌<◌, ◌^◌, ◌≤◌, List, ℕ, All, IfOk, IfSome, OnOk, map, length, string_bytes};
-ghost use Rattle.io_edge.specs.Faults.{Rose};
+ghost use Rattle.std.specs.Prelude.{◌≡◌, ◌<◌, ◌^◌, ◌≤◌, List, ℕ, All, IfOk, IfSome, OnErr, OnOk, map, length, string_bytes};
+ghost use Rattle.std.specs.Io.KnownBytes.{Appends};
+ghost use Rattle.io_edge.specs.Faults.{HasCause, Rose};
 ghost use Rattle.io_edge.specs.declared.reading.TheConstants.{LIMIT};
 ghost use Rattle.script_text.specs.Printed.{HasIntegers};
 ghost use Rattle.script_text.specs.Script.{IsBuiltLine};
 ghost use Rattle.session_serve.specs.Words.{command_of};
-ghost use Rattle.session_serve.specs.Runs.{Ends, HadRoom, IsHistoryOf, MayEnd, TakesInput, due_status, one_empty_table, streams};
-ghost use Rattle.session_serve.specs.Parts.{IsEntryOf, PlayedScript, RanBytes, RanInput, Wrote};
+ghost use Rattle.session_serve.specs.Runs.{AppendsFront, Ends, HadRoom, IsHistoryOf, MayEnd, TakesInput, UnlessWritten, due_status, one_empty_table, streams};
+ghost use Rattle.session_serve.specs.Parts.{IsEntryOf, PlayedScript, RanBytes, RanInput};
 ghost use Rattle.mv_model.specs.History.{IsAllowed};
 ghost use Rattle.mv_model.specs.Next.{next};
 ghost use Rattle.session_serve.specs.declared.status.Status.TheVariants as status;
 
 use crate::engine::Engine;
 use crate::{Command, Job, Status, WordsError, read_words};
-use io_edge::{ReadAllError, Sink, Source, read_all, write_all};
+use io_edge::{Failed, ReadAllError, Sink, Source, read_all, write_all};
 use mv_model::{Entry, NoMemory};
 use script_text::{Line, Script, ScriptError, print_history, read_script};
 use std::alloc::Global;
@@ -54,40 +55,39 @@ fn answer_script(alloc: Global, script: Script) -> Result<Vec<Entry>, NoMemory>
 }
 
 /// Writes and flushes the text.
-fn write_text<O: Sink>(text: &[u8], out: &mut O) -> Status
-    ensures written { Wrote result text.now (O.held out.old) (O.held out.new) }
-    ensures later { O.faults out.old ≤ O.faults out.new }
-    ensures fault { result ≡ status.WriteFault → Rose (O.faults out.old) (O.faults out.new) }
+fn write_text<O: Sink>(text: &[u8], out: &mut O) -> Result<(), Failed>
+    ensures all { OnOk result (Appends (O.held out.old) (O.held out.new) text.now) }
+    ensures front { OnErr result (AppendsFront (O.held out.old) (O.held out.new) text.now) }
+    ensures cause { HasCause (O.faults out.old) (O.faults out.new) result }
 {
-    match write_all(out, text) {
-        Err(_) => return Status::WriteFault,
-        Ok(()) => {}
-    }
-    match out.flush() {
-        Ok(()) => Status::Done,
-        Err(_) => Status::WriteFault,
-    }
+    write_all(out, text)?;
+    out.flush()
 }
 
 /// Runs the script and writes its printed history.
 fn run_script<O: Sink>(alloc: Global, script: Script, out: &mut O) -> Status
     requires { All IsBuiltLine script }
     ensures ran { PlayedScript result script (O.held out.old) (O.held out.new) }
+    ensures unwritten { UnlessWritten result (out.new ≡ out.old) }
     ensures later { O.faults out.old ≤ O.faults out.new }
     ensures fault { result ≡ status.WriteFault → Rose (O.faults out.old) (O.faults out.new) }
 {
     let Ok(history) = answer_script(alloc, script) else {
         return Status::NoMemory;
     };
-    match print_history(alloc, &history) {
-        Err(_) => Status::NoMemory,
-        Ok(text) => write_text(&text, out),
+    let Ok(text) = print_history(alloc, &history) else {
+        return Status::NoMemory;
+    };
+    match write_text(&text, out) {
+        Ok(()) => Status::Done,
+        Err(Failed) => Status::WriteFault,
     }
 }
 
 fn run_bytes<O: Sink>(alloc: Global, bytes: &[u8], out: &mut O) -> Status
     requires { length bytes.now ≤ LIMIT }
     ensures ran { RanBytes result bytes.now (O.held out.old) (O.held out.new) }
+    ensures unwritten { UnlessWritten result (out.new ≡ out.old) }
     ensures later { O.faults out.old ≤ O.faults out.new }
     ensures fault { result ≡ status.WriteFault → Rose (O.faults out.old) (O.faults out.new) }
 {
@@ -101,6 +101,7 @@ fn run_bytes<O: Sink>(alloc: Global, bytes: &[u8], out: &mut O) -> Status
 fn run_input<S: Source, O: Sink>(alloc: Global, input: &mut S, out: &mut O) -> Status
     ensures ran { RanInput result (S.left input.old) (S.left input.new) (O.held out.old) (O.held out.new) }
     ensures taken { TakesInput result (S.left input.old) (S.left input.new) }
+    ensures unwritten { UnlessWritten result (out.new ≡ out.old) }
     ensures read_later { S.faults input.old ≤ S.faults input.new }
     ensures read_fault { result ≡ status.ReadFault → Rose (S.faults input.old) (S.faults input.new) }
     ensures write_later { O.faults out.old ≤ O.faults out.new }
@@ -141,6 +142,10 @@ pub fn run<I: Source, S: Source, J: Sink, O: Sink>(
     ensures read_later { S.faults input.old ≤ S.faults input.new }
     ensures write_fault { result ≡ status.WriteFault → Rose (O.faults out.old) (O.faults out.new) }
     ensures write_later { O.faults out.old ≤ O.faults out.new }
+
+    // Where no text is due, the output is left as it was, and where the words are refused, so is the input.
+    ensures unwritten { UnlessWritten result (out.new ≡ out.old) }
+    ensures unread { result ≡ status.Usage → input.new ≡ input.old }
 
     // The image is neither read nor written.
     ensures image { image.new ≡ image.old }

@@ -1,8 +1,8 @@
-ghost use Rattle.std.specs.Prelude.{◌≡◌, ◌++◌, OnOk, decimal};
+ghost use Rattle.std.specs.Prelude.{◌≡◌, ◌++◌, IfOk, OnErr, OnOk, string_bytes};
 ghost use Rattle.session_serve.specs.Statuses.{bad_line_text, exit_number, status_text as text_of};
 
-use itoa::Buffer;
 use mv_model::NoMemory;
+use std::alloc::Global;
 
 /// How a call ends.
 #[derive(Clone, Copy, Debug, PartialEq, Eq)]
@@ -34,54 +34,32 @@ impl Status {
     }
 }
 
-fn push_number(to: &mut Vec<u8>, number: u32) -> Result<(), NoMemory>
-    ensures { OnOk result (to.new.items ≡ to.old.items ++ decimal number) }
-{
-    let mut buffer = Buffer::new();
-    to.extend_from_slice(buffer.format(number).as_bytes())
-}
-
 fn push_text(to: &mut Vec<u8>, text: &str) -> Result<(), NoMemory>
-    ensures { OnOk result (to.new.items ≡ to.old.items ++ text.now) }
+    ensures text { OnOk result (to.new.items ≡ to.old.items ++ text.now) }
+    ensures kept { OnErr result (to.new.items ≡ to.old.items) }
 {
     to.extend_from_slice(text.as_bytes())
 }
 
-fn push_two(
-    to: &mut Vec<u8>,
-    word: &str,
-    number: u32,
-    second_word: &str,
-    second: u32,
-) -> Result<(), NoMemory>
-    ensures { OnOk result (to.new.items ≡ to.old.items ++ (word.now ++ decimal number ++ second_word.now ++ decimal second)) }
+fn bad_line(alloc: Global, line: u32, rule: u8) -> Result<String, NoMemory>
+    ensures { IfOk result (λ text. string_bytes text ≡ bad_line_text line rule) }
 {
-    push_text(to, word)?;
-    push_number(to, number)?;
-    push_text(to, second_word)?;
-    push_number(to, second)
+    format!(in alloc; "sofort: bad script: line {line}: rule {rule}")
 }
 
-fn push_bad_line(to: &mut Vec<u8>, line: u32, rule: u8) -> Result<(), NoMemory>
-    ensures { OnOk result (to.new.items ≡ to.old.items ++ bad_line_text line rule) }
-{
-    push_two(
-        to,
-        "sofort: bad script: line ",
-        line,
-        ": rule ",
-        u32::from(rule),
-    )
-}
-
-/// Appends the text that is printed for the status, which is none for `Done`.
+/// Appends the text that is printed for the status, which is none for `Done`. After an error `to`
+/// is as it was.
 pub fn status_text(status: &Status, to: &mut Vec<u8>) -> Result<(), NoMemory>
-    ensures { OnOk result (to.new.items ≡ to.old.items ++ text_of status.now) }
+    ensures text { OnOk result (to.new.items ≡ to.old.items ++ text_of status.now) }
+    ensures kept { OnErr result (to.new.items ≡ to.old.items) }
 {
     match status {
         Status::Done => Ok(()),
         Status::Usage => push_text(to, "sofort: usage"),
-        Status::BadScript { line, rule } => { push_bad_line(to, *line, *rule) }
+        Status::BadScript { line, rule } => {
+            let text = bad_line(*to.allocator(), *line, *rule)?;
+            push_text(to, text.as_str())
+        }
         Status::ReadFault => push_text(to, "sofort: read fault"),
         Status::WriteFault => push_text(to, "sofort: write fault"),
         Status::NoMemory => push_text(to, "sofort: no memory"),
