@@ -63,6 +63,15 @@ impl Script {
     {
         self.lines.as_slice()
     }
+
+    /// The lines, in order.
+    pub fn into_vec(self) -> Vec<Line>
+        ensures lines { result.items ≡ self }
+        ensures fits { length result.items < 2 ^ 32 }
+    {
+        let Script { lines } = self;
+        lines
+    }
 }
 
 fn table() -> Name

@@ -1,0 +1,4 @@
+pub mod Histories
+pub mod Writes
+pub mod Engines
+pub mod Calls
