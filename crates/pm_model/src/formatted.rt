@@ -11,7 +11,8 @@ use std::alloc::Global;
 pub fn fresh(alloc: Global, segments: u32) -> Result<Vec<u64>, NoMemory>
     requires one_or_more { 1 ≤ segments }
     requires most { segments ≤ 128 }
-    ensures { IfOk result (λ words. words.items ≡ fresh_words segments) }
+    ensures words { IfOk result (λ words. words.items ≡ fresh_words segments) }
+    ensures size { IfOk result (λ words. length words.items ≡ 32768 * segments) }
 {
     let count = (segments * SEGMENT_WORDS) as usize;
     let mut words = vec![in alloc; 0; count]?;
