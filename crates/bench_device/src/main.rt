@@ -1,6 +1,7 @@
 //! Plays parts that are spread over a device, to measure what an action costs whatever the device's size.
 //! Its arguments are a number of segments and a number of rounds. Each round plays one part of each of 16 sessions:
 //! 8 stores, 8 flushes and a fence. It prints a checksum of what it loads from the stored words.
+//! All rounds write the same 256 words, which lie anywhere in the device, so that they stay in the processor's cache.
 #![tactic(auto)]
 
 ghost use Rattle.std.specs.Prelude.{◌<◌, ◌≤◌, length};
@@ -13,12 +14,14 @@ use std::env;
 use std::io;
 
 const STORES: u64 = 8;
+const WORDS: u64 = 256;
 
-// A place that a number chooses.
+// One of the words, which a number chooses.
 fn pick<M: Memory>(memory: &M, number: u64) -> Place
     ensures { result.0 < length (M.device memory.now).cached }
 {
-    Place((mix(number) % u64::from(memory.len())) as u32)
+    let word = mix(number % WORDS);
+    Place((word % u64::from(memory.len())) as u32)
 }
 
 // Stores into the part's words, where they are clean.
