@@ -1,0 +1,2 @@
+/// A request for memory was refused.
+pub type NoMemory = std::alloc::AllocError;

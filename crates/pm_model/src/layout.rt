@@ -1,0 +1,52 @@
+// The sizes and numbers of the layout, each said once.
+
+/// Words of a line, the unit of a flush. Eight words are the 64 bytes of a cache line.
+pub const LINE_WORDS: u32 = 8;
+
+/// Words of a page, the unit of the heap and of a punch. They are the 4,096 bytes of an operating system's page.
+pub const PAGE_WORDS: u32 = 512;
+
+/// Lines of a page.
+pub const PAGE_LINES: u32 = PAGE_WORDS / LINE_WORDS;
+
+/// Pages of a segment. Their descriptors are the first 64 words of the segment's first page.
+pub const SEGMENT_PAGES: u32 = 64;
+
+/// Words of a segment, in whole numbers of which a device comes: 256 KiB.
+pub const SEGMENT_WORDS: u32 = SEGMENT_PAGES * PAGE_WORDS;
+
+/// Segments of the largest device, which has 32 MiB. All its places and pages fit `Place` and `Page`.
+pub const MAX_SEGMENTS: u32 = 128;
+
+/// Words of the largest device.
+pub const MAX_WORDS: u32 = MAX_SEGMENTS * SEGMENT_WORDS;
+
+/// Sessions, numbered from 1. Number 0 is the opener, which acts before any of them.
+pub const SESSIONS: u8 = 16;
+
+/// Lanes, numbered from 0: one for each session, so that no two sessions log an allocation in one place.
+pub const LANES: u8 = SESSIONS;
+
+/// Words of a lane, of which three are used. A lane is a line of its own, so a flush touches one lane alone.
+pub const LANE_WORDS: u32 = LINE_WORDS;
+
+/// Transaction objects, numbered from 0: one for each session, which runs one transaction at a time.
+pub const OBJECTS: u8 = SESSIONS;
+
+/// Words of a transaction object: eight lines.
+pub const OBJECT_WORDS: u32 = 64;
+
+/// Entries that stand in a transaction object itself: what its four other words leave.
+pub const OBJECT_ENTRIES: u8 = 60;
+
+/// Table slots: as many words as four lines have.
+pub const TABLES: u8 = 32;
+
+/// The image's magic number: the bytes `SOFORTDB`, the first one lowest.
+pub const MAGIC: u64 = 0x4244_5452_4F46_4F53;
+
+/// The version of the format.
+pub const VERSION: u64 = 1;
+
+/// The descriptor of a page that the heap never gives out.
+pub const RESERVED: u64 = 8;
