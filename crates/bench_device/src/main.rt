@@ -10,10 +10,10 @@ use pm_model::{
     Action, LINE_WORDS, MAX_SEGMENTS, Memory, NoMemory, Place, Plain, SESSIONS, fresh, mix,
 };
 use std::alloc::Global;
-use std::env;
-use std::io;
+use std::{env, io};
 
 const STORES: u64 = 8;
+
 const WORDS: u64 = 256;
 
 // One of the words, which a number chooses.
@@ -87,7 +87,9 @@ fn play_rounds(alloc: Global, segments: u32, rounds: u64) -> Result<u64, NoMemor
 }
 
 fn main(rt: HostRuntime) -> io::Result<()> {
-    let mut numbers = env::args(&rt)?.skip(1).filter_map(|word| word.parse::<u32>().ok());
+    let mut numbers = env::args(&rt)?
+        .skip(1)
+        .filter_map(|word| word.parse::<u32>().ok());
     match (numbers.next(), numbers.next()) {
         (Some(segments), Some(rounds)) if segments > 0 && segments <= MAX_SEGMENTS => {
             let sum = play_rounds(rt.alloc(), segments, u64::from(rounds))?;

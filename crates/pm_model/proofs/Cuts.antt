@@ -1,11 +1,11 @@
 -- What a plan's law is made of: parts of one store, parts of one value, plans one after the other, and what each cut has.
-use Rattle.std.proofs.Common.{◌≡◌, ◌≢◌, ◌⊎◌, inl, inr, ⊎_elim, ℕ, zero, suc, ◌<◌, Bool, true, false, ◌||◌, eqb, List, [], ◌∷◌, ◌++◌, length, get_or, set, refl, sym, ◌∙◌, ap, subst}
+use Rattle.std.proofs.Common.{◌≡◌, ◌≢◌, ◌⊎◌, inl, inr, ⊎_elim, ℕ, ◌<◌, Bool, true, false, ◌||◌, eqb, List, [], ◌∷◌, ◌++◌, length, get_or, set, refl, sym, ◌∙◌, ap, subst}
 use Rattle.std.proofs.lemmas.List.{get_or-set_same, get_or-set_other, length-set}
-use Rattle.std.proofs.lemmas.Bool.{cases_eq, cases_Bool, both_ways, eqb-true, ne_eqb, eq-eqb, or_cases, or_from, or_parts}
+use Rattle.std.proofs.lemmas.Bool.{cases_eq, cases_Bool, both_ways, eqb-true, ne_eqb, or_cases, or_from}
 use Rattle.pm_model.specs.declared.action.Action.{Action}
 use Rattle.pm_model.specs.Device.{IsBetween}
-use Rattle.pm_model.specs.Plans.{Part, store, one_store, stores, unless_empty, words_after, footprint, finished, IsPart, IsPlan, EachCut}
-use Rattle.pm_model.proofs.Words.{ext_words, length-cached_after}
+use Rattle.pm_model.specs.Plans.{Part, one_store, stores, unless_empty, words_after, footprint, finished, IsPart, IsPlan, EachCut}
+use Rattle.pm_model.proofs.Words.{ext_words}
 use Rattle.pm_model.proofs.Alone.{length-words_after}
 use Rattle.pm_model.proofs.PlanLaw.{words_after-kept}
 

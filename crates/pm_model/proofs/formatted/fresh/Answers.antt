@@ -1,4 +1,4 @@
-use Rattle.std.proofs.Common.{◌≡◌, ℕ, ◌*◌, length, replicate, ◌∙◌, sym, ap, arith}
+use Rattle.std.proofs.Common.{◌≡◌, ℕ, ◌*◌, length, ap, arith}
 use Rattle.std.proofs.lemmas.List.{with_items_is, length-replicate}
 use Rattle.pm_model.proofs.FreshImage.{fresh_words_is}
 use Rattle.pm_model.proofs.formatted.fresh.Goals as goal

@@ -1,4 +1,4 @@
-use Rattle.std.proofs.Common.{◌≡◌, ℕ, ◌-◌, ◌<◌, [], length, Vec, Global, vec_capacity}
+use Rattle.std.proofs.Common.{◌≡◌, ℕ, ◌<◌, [], length, Vec, Global, vec_capacity}
 use Rattle.pm_model.specs.Masks.{IsListOf}
 use Rattle.pm_model.proofs.plain.empty_lists.Given as goal
 
