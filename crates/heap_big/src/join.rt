@@ -29,7 +29,8 @@ pub(crate) fn join_right(runs: &mut Vec<Run>, at: usize, run: Run) -> Run
     requires short { All (λ other. other.pages ≤ 64) runs.old.items }
     requires run_short { run.pages ≤ 64 }
     ensures run { result ≡ with_right run (drop at runs.old.items) }
-    ensures runs { runs.new.items ≡ take at runs.old.items ++ without_right run (drop at runs.old.items) }
+    ensures runs { runs.new.items
+        ≡ take at runs.old.items ++ without_right run (drop at runs.old.items) }
     ensures capacity { vec_capacity runs.new ≡ vec_capacity runs.old }
 {
     if at < runs.len() {
@@ -51,7 +52,8 @@ pub(crate) fn join_left(runs: &mut Vec<Run>, at: usize, run: Run)
     requires room { vec_len runs.old < vec_capacity runs.old }
     requires short { All (λ other. other.pages ≤ 64) runs.old.items }
     requires run_short { run.pages ≤ 128 }
-    ensures runs { runs.new.items ≡ with_last (take at runs.old.items) run ++ drop at runs.old.items }
+    ensures runs { runs.new.items
+        ≡ with_last (take at runs.old.items) run ++ drop at runs.old.items }
     ensures capacity { vec_capacity runs.new ≡ vec_capacity runs.old }
 {
     if at > 0 {

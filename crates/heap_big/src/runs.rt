@@ -49,7 +49,8 @@ impl Runs {
         requires whole { length descriptors.now % 64 ≡ 0 }
         requires small { length descriptors.now ≤ 8192 }
         ensures page_count { IfOk result (λ free. free.page_count ≡ length descriptors.now) }
-        ensures pages { IfOk result (λ free. (page : ℕ) → IsFree free.runs page ↔ IsFreePage descriptors.now page) }
+        ensures pages { IfOk result (λ free. (page : ℕ)
+            → IsFree free.runs page ↔ IsFreePage descriptors.now page) }
         ensures well_formed { IfOk result IsWellFormed }
     {
         let mut index = Runs {
@@ -70,7 +71,8 @@ impl Runs {
         requires within { page < self.old.page_count }
         requires not_free { IsFree self.old.runs page → ⊥ }
         ensures left { result ≡ inside_next page inside descriptor }
-        ensures free { inside ≡ 0 → descriptor ≤ 1 → Adds self.old.runs (record { first = page; pages = 1 }) self.new.runs }
+        ensures free { inside ≡ 0 → descriptor ≤ 1
+            → Adds self.old.runs (record { first = page; pages = 1 }) self.new.runs }
         ensures inside { 0 < inside → self.new ≡ self.old }
         ensures used { 1 < descriptor → self.new ≡ self.old }
         ensures page_count { self.new.page_count ≡ self.old.page_count }
@@ -91,7 +93,8 @@ impl Runs {
         ensures none { IsNone result ↔ All (λ run. run.pages < pages) self.old.runs }
         ensures best { IfSome result (λ run. TakesBestFit self.old.runs pages run self.new.runs) }
         ensures size { IfSome result (λ run. run.pages ≡ pages) }
-        ensures were_free { IfSome result (λ run. (page : ℕ) → HasPage run page → IsFree self.old.runs page) }
+        ensures were_free { IfSome result (λ run. (page : ℕ)
+            → HasPage run page → IsFree self.old.runs page) }
         ensures pages { IfSome result (λ run. Removes self.old.runs run self.new.runs) }
         ensures in_segment { IfSome result (λ run. run.first % 64 + run.pages ≤ 64) }
         ensures within { IfSome result (λ run. end_of run ≤ self.old.page_count) }

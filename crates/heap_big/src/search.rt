@@ -43,7 +43,8 @@ pub(crate) fn take_front(runs: &mut Vec<Run>, at: usize, pages: u32) -> Run
     ensures taken { IfSome (slice_get runs.old.items at) (λ chosen.
         result ≡ record { first = chosen.first; pages = pages }) }
     ensures rest { IfSome (slice_get runs.old.items at) (λ chosen.
-        runs.new.items ≡ take at runs.old.items ++ rest_of chosen pages ++ drop (at + 1) runs.old.items) }
+        runs.new.items
+        ≡ take at runs.old.items ++ rest_of chosen pages ++ drop (at + 1) runs.old.items) }
     ensures capacity { vec_capacity runs.new ≡ vec_capacity runs.old }
 {
     let chosen = runs[at];
