@@ -36,7 +36,8 @@ fn push_words(words: &mut Vec<u64>, count: usize, bytes: &[u8]) -> Result<(), Al
 // Appends zeros up to a length.
 fn push_zeros(words: &mut Vec<u64>, len: usize) -> Result<(), AllocError>
     requires { length words.old.items ≤ len }
-    ensures items { OnOk result (words.new.items ≡ words.old.items ++ replicate (len - length words.old.items) 0) }
+    ensures items { OnOk result (words.new.items
+        ≡ words.old.items ++ replicate (len - length words.old.items) 0) }
     ensures each { OnOk result (All (λ word. word < 2 ^ 64) words.new.items) }
 {
     words.resize(len, 0)?;
@@ -48,7 +49,8 @@ fn push_page(words: &mut Vec<u64>, page: u32, bytes: &[u8]) -> Result<(), AllocE
     requires place { length words.old.items ≤ 512 * page }
     requires whole { 4096 ≤ length bytes.now }
     ensures { OnOk result (words.new.items
-        ≡ words.old.items ++ replicate (512 * page - length words.old.items) 0 ++ words_in 512 bytes.now) }
+        ≡ words.old.items ++ replicate (512 * page - length words.old.items) 0
+        ++ words_in 512 bytes.now) }
 {
     push_zeros(words, PAGE_WORDS * page as usize)?;
     push_words(words, PAGE_WORDS, bytes)
@@ -67,7 +69,8 @@ fn read_pages(
     ensures each { IfOk result (λ words. All (λ word. word < 2 ^ 64) words.items) }
     ensures length { IfOk result (λ words. length words.items ≡ 32768 * segments) }
     ensures count { IfOk result (λ words. length (stored (64 * segments) 0 words.items) ≡ count) }
-    ensures pages { IfOk result (λ words. items.now ≡ pages_spelling (stored (64 * segments) 0 words.items)) }
+    ensures pages { IfOk result (λ words.
+        items.now ≡ pages_spelling (stored (64 * segments) 0 words.items)) }
 {
     let limit = SEGMENT_PAGES * segments;
     let mut words = Vec::with_capacity(alloc, PAGE_WORDS * limit as usize)?;
@@ -100,7 +103,8 @@ fn read_pages(
 #[tactic(auto, unfolding(crate::specs::Fault::first_fault, crate::specs::Fault::number_at, crate::specs::Spelling::magic))]
 fn read_image(alloc: Global, bytes: &[u8]) -> Result<Vec<u64>, ImageError>
     ensures exact { Answers result (first_fault bytes.now) }
-    ensures found { IfOk result (λ words. IsImage words.items × (bytes.now ≡ spelling words.items)) }
+    ensures found { IfOk result (λ words.
+        IsImage words.items × (bytes.now ≡ spelling words.items)) }
 {
     if bytes.len() < VERSION_AT {
         return Err(ImageError::Truncated);
@@ -136,13 +140,16 @@ fn read_image(alloc: Global, bytes: &[u8]) -> Result<Vec<u64>, ImageError>
 /// An error is the first fault of the bytes from left to right, or `NoMemory`.
 pub fn decode(alloc: Global, bytes: &[u8]) -> Result<Vec<u64>, ImageError>
     // What is read is spelled so, each byte of it.
-    ensures found { IfOk result (λ words. IsImage words.items × (bytes.now ≡ spelling words.items)) }
+    ensures found { IfOk result (λ words.
+        IsImage words.items × (bytes.now ≡ spelling words.items)) }
     // What an image is spelled as is read as that image, unless memory runs out.
-    ensures reads_back { (words : List ℕ) → IsImage words → bytes.now ≡ spelling words → Reads result words }
+    ensures reads_back { (words : List ℕ) → IsImage words → bytes.now ≡ spelling words
+        → Reads result words }
     // Bytes that begin a spelling and end before it does are truncated, unless memory runs out.
     ensures prefix { (words : List ℕ) (more : List ℕ) → IsImage words → 0 < length more
         → spelling words ≡ bytes.now ++ more → Answers result (Some ImageError.Truncated) }
-    // Each error but want of memory is the first fault of the bytes, and bytes with a fault give no value.
+    // Each error but want of memory is the first fault of the bytes, and there is a value only
+    // where they have none.
     ensures exact { Answers result (first_fault bytes.now) }
 {
     read_image(alloc, bytes)

@@ -19,7 +19,8 @@ pub enum ImageError {
     /// The segments aren't 1 to 128, or more pages are stored than these have.
     #[error("bad size")]
     BadSize,
-    /// The number of item `at` isn't above the one before or isn't that of a page, or its words are all 0.
+    /// The page number of item `at` isn't above the one before or isn't below the number of pages,
+    /// or its words are all 0.
     #[error("bad page {at}")]
     BadPage { at: u32 },
     /// The bytes end inside a field or an item.

@@ -1,0 +1,139 @@
+ghost use Rattle.std.specs.Prelude.{◌≡◌, ◌+◌, ◌%◌, ◌<◌, ◌≤◌, ◌↔◌, All, IsNone, IfOk, IfSome, IfNone, length, ℕ};
+ghost use Rattle.heap_big.specs.Runs.{end_of, HasPage, IsFree, IsInSegment, longest, IsGreatest, IsWellFormed, Adds, Removes};
+ghost use Rattle.heap_big.specs.Fit.{TakesBestFit};
+ghost use Rattle.heap_big.specs.Descriptors.{inside_next, IsFreePage};
+
+use crate::join::{join_left, join_right, place_for};
+use crate::search::{best_fit, longest_run, take_front};
+use crate::{NoMemory, Run};
+use std::alloc::Global;
+use std::marker::Model;
+
+// How many pages of a big block are left behind a page; none where a segment ends.
+fn left_behind(page: u16, descriptor: u64, inside: u64) -> u64
+    ensures { result ≡ inside_next page inside descriptor }
+{
+    if page % 64 == 63 {
+        return 0;
+    }
+    if inside > 0 {
+        return inside - 1;
+    }
+    descriptor.saturating_sub(17)
+}
+
+/// The index of the free runs of a heap.
+#[derive(Debug, Drop)]
+pub struct Runs {
+    runs: Vec<Run>,
+    page_count: u32,
+}
+
+impl Model for Runs {
+    ghost use Rattle.heap_big.specs.Runs.{FreeRuns};
+
+    ghost Value = { FreeRuns };
+
+    ghost use Rattle.heap_big.specs.Index.{free_runs, IsIndex};
+
+    ghost view = { free_runs };
+
+    ghost invariant = { IsIndex };
+}
+
+impl Runs {
+    /// The index of a heap whose pages have these descriptors, 64 for each segment.
+    ///
+    /// It takes the room for as many runs as there are pages. No other call takes memory.
+    pub fn from_descriptors(alloc: Global, descriptors: &[u64]) -> Result<Runs, NoMemory>
+        requires whole { length descriptors.now % 64 ≡ 0 }
+        requires small { length descriptors.now ≤ 8192 }
+        ensures page_count { IfOk result (λ free. free.page_count ≡ length descriptors.now) }
+        ensures pages { IfOk result (λ free. (page : ℕ)
+            → IsFree free.runs page ↔ IsFreePage descriptors.now page) }
+        ensures well_formed { IfOk result IsWellFormed }
+    {
+        let mut index = Runs {
+            runs: Vec::with_capacity(alloc, descriptors.len())?,
+            page_count: descriptors.len() as u32,
+        };
+        let mut inside = 0;
+        for (page, descriptor) in descriptors.iter().enumerate() {
+            inside = index.scan(page as u16, *descriptor, inside);
+        }
+        Ok(index)
+    }
+
+    // Puts the next page back where it is free, and gives how many pages of a big block are left
+    // behind it.
+    fn scan(&mut self, page: u16, descriptor: u64, inside: u64) -> u64
+        requires well_formed { IsWellFormed self.old }
+        requires within { page < self.old.page_count }
+        requires not_free { IsFree self.old.runs page → ⊥ }
+        ensures left { result ≡ inside_next page inside descriptor }
+        ensures free { inside ≡ 0 → descriptor ≤ 1
+            → Adds self.old.runs (record { first = page; pages = 1 }) self.new.runs }
+        ensures inside { 0 < inside → self.new ≡ self.old }
+        ensures used { 1 < descriptor → self.new ≡ self.old }
+        ensures page_count { self.new.page_count ≡ self.old.page_count }
+        ensures well_formed { IsWellFormed self.new }
+    {
+        if inside == 0 && descriptor <= 1 {
+            self.put_back(Run {
+                first: page,
+                pages: 1,
+            });
+        }
+        left_behind(page, descriptor, inside)
+    }
+
+    /// Takes so many pages from the front of the shortest run that has them, and of several such
+    /// runs from the first; none where each run is shorter.
+    pub fn take(&mut self, pages: u32) -> Option<Run>
+        ensures none { IsNone result ↔ All (λ run. run.pages < pages) self.old.runs }
+        ensures best { IfSome result (λ run. TakesBestFit self.old.runs pages run self.new.runs) }
+        ensures size { IfSome result (λ run. run.pages ≡ pages) }
+        ensures were_free { IfSome result (λ run. (page : ℕ)
+            → HasPage run page → IsFree self.old.runs page) }
+        ensures pages { IfSome result (λ run. Removes self.old.runs run self.new.runs) }
+        ensures in_segment { IfSome result (λ run. run.first % 64 + run.pages ≤ 64) }
+        ensures within { IfSome result (λ run. end_of run ≤ self.old.page_count) }
+        ensures unchanged { IfNone result (self.new ≡ self.old) }
+        ensures page_count { self.new.page_count ≡ self.old.page_count }
+        ensures well_formed { IsWellFormed self.new }
+    {
+        let at = best_fit(&self.runs, pages)?;
+        Some(take_front(&mut self.runs, at, pages))
+    }
+
+    /// Makes the pages of the run free. It joins its neighbours of the same segment.
+    pub fn put_back(&mut self, run: Run)
+        requires in_segment { IsInSegment run }
+        requires within { end_of run ≤ self.old.page_count }
+        requires not_free { (page : ℕ) → HasPage run page → IsFree self.old.runs page → ⊥ }
+        ensures pages { Adds self.old.runs run self.new.runs }
+        ensures page_count { self.new.page_count ≡ self.old.page_count }
+        ensures well_formed { IsWellFormed self.new }
+    {
+        let at = place_for(&self.runs, run.first);
+        let run = join_right(&mut self.runs, at, run);
+        join_left(&mut self.runs, at, run);
+    }
+
+    /// The pages of the longest run, 0 where no page is free.
+    pub fn largest(&self) -> u32
+        ensures longest { result ≡ longest self.now.runs }
+        ensures greatest { IsGreatest self.now.runs result }
+        ensures well_formed { IsWellFormed self.now }
+    {
+        longest_run(&self.runs)
+    }
+
+    /// The runs in ascending place.
+    pub fn as_slice(&self) -> &[Run]
+        ensures runs { result.now ≡ self.now.runs }
+        ensures well_formed { IsWellFormed self.now }
+    {
+        self.runs.as_slice()
+    }
+}
