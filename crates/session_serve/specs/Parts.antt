@@ -1,6 +1,6 @@
 -- What the parts of a call have done, by the status that they give.
 use Rattle.std.specs.Prelude.{ℕ, ◌≡◌, true, List, Option, Ok, Err}
-use Rattle.std.specs.Io.KnownBytes.{Appends, Keeps}
+use Rattle.std.specs.Io.KnownBytes.{Appends}
 use Rattle.mv_model.specs.declared.reply.Entry.{Entry}
 use Rattle.script_text.specs.declared.script.Line.{Line}
 use Rattle.script_text.specs.declared.script.Line.TheVariants as line
@@ -25,7 +25,7 @@ pub record PrintedRun (Writes : Option (List ℕ) → Option (List ℕ) → List
 abbrev pub PlayedScript : Status → List Line → Option (List ℕ) → Option (List ℕ) → Type 0
 PlayedScript status.Done script before after = PrintedRun Appends script before after
 PlayedScript status.WriteFault script before after = PrintedRun AppendsFront script before after
-PlayedScript status.NoMemory script before after = Keeps before after
+PlayedScript status.NoMemory script before after = Unit {0}
 PlayedScript other script before after = ⊥
 
 -- the script that the bytes spell
@@ -37,9 +37,8 @@ pub record PrintedBytes (Writes : Option (List ℕ) → Option (List ℕ) → Li
 abbrev pub RanBytes : Status → List ℕ → Option (List ℕ) → Option (List ℕ) → Type 0
 RanBytes status.Done bytes before after = PrintedBytes Appends bytes before after
 RanBytes status.WriteFault bytes before after = PrintedBytes AppendsFront bytes before after
-RanBytes (status.BadScript number rule) bytes before after =
-    (script_of bytes ≡ Err (script_error.BadLine number rule)) × Keeps before after
-RanBytes status.NoMemory bytes before after = Keeps before after
+RanBytes (status.BadScript number rule) bytes before after = script_of bytes ≡ Err (script_error.BadLine number rule)
+RanBytes status.NoMemory bytes before after = Unit {0}
 RanBytes other bytes before after = ⊥
 
 -- the source was read to its end, and what it gave was run
@@ -49,7 +48,7 @@ ReadAndRan given input_before input_after before after =
 
 abbrev pub RanInput : Status → Option (List ℕ) → Option (List ℕ) → Option (List ℕ) → Option (List ℕ) → Type 0
 RanInput status.Usage input_before input_after before after = ⊥
-RanInput status.ReadFault input_before input_after before after = Keeps before after
-RanInput status.InputTooLong input_before input_after before after = Keeps before after
-RanInput status.NoMemory input_before input_after before after = Keeps before after
+RanInput status.ReadFault input_before input_after before after = Unit {0}
+RanInput status.InputTooLong input_before input_after before after = Unit {0}
+RanInput status.NoMemory input_before input_after before after = Unit {0}
 RanInput given input_before input_after before after = ReadAndRan given input_before input_after before after

@@ -1,6 +1,6 @@
 -- What a call of `run` has done, by its status, and which status it ends with.
 use Rattle.std.specs.Prelude.{ℕ, ◌≡◌, ◌+◌, ◌≤◌, ◌↔◌, ◌++◌, nat_lt, true, List, [], ◌∷◌, All, codes, length, map, Option, None, Some, Result, Ok, Err, if◌then◌else◌}
-use Rattle.std.specs.Io.KnownBytes.{Appends, Consumes, IsAtEnd, Keeps}
+use Rattle.std.specs.Io.KnownBytes.{Appends, Consumes, IsAtEnd}
 use Rattle.io_edge.specs.Transfer.{Loses}
 use Rattle.io_edge.specs.declared.reading.TheConstants.{LIMIT}
 use Rattle.mv_model.specs.declared.shape.Kind.TheVariants as kind
@@ -91,23 +91,17 @@ abbrev pub OfJob : Option Command → (Job → Type 0) → Type 0
 OfJob None P = ⊥
 OfJob (Some (Run job paths)) P = P job
 
--- nothing was written
-pub record Unwritten (before after : Streams) : Type 0 where
-  pub image : Keeps before.image_out after.image_out
-  pub text : Keeps before.out after.out
-
 -- what the call has done, where it ends with this status
 abbrev pub Ends : Status → Option Command → Streams → Streams → Type 0
 Ends status.Done command before after = OfJob command (λ job. DidJob job Appends before after)
-Ends status.Usage command before after = (command ≡ None) × Keeps before.input after.input × Unwritten before after
-Ends (status.BadScript line rule) command before after =
-    OfJob command (λ job. RefusedJob job line rule before after) × Unwritten before after
-Ends status.ReadFault command before after = OfJob command (λ job. Unit {0}) × Unwritten before after
+Ends status.Usage command before after = command ≡ None
+Ends (status.BadScript line rule) command before after = OfJob command (λ job. RefusedJob job line rule before after)
+Ends status.ReadFault command before after = OfJob command (λ job. Unit {0})
 Ends status.WriteFault command before after = OfJob command (λ job. DidJob job AppendsFront before after)
-Ends status.NoMemory command before after = Unwritten before after
-Ends status.InputTooLong command before after = OfJob command (λ job. Unit {0}) × Unwritten before after
+Ends status.NoMemory command before after = Unit {0}
+Ends status.InputTooLong command before after = OfJob command (λ job. Unit {0})
 
--- this holds, unless the text was due: only then is the output written
+-- this holds, unless the call ends where it writes its text
 abbrev pub UnlessWritten : Status → Type 0 → Type 0
 UnlessWritten status.Done claim = Unit {0}
 UnlessWritten status.WriteFault claim = Unit {0}

@@ -5,6 +5,8 @@
 mod engine;
 mod serving;
 mod status;
+#[cfg(test)]
+mod tests;
 mod words;
 
 pub use serving::run;

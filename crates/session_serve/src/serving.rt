@@ -84,6 +84,7 @@ fn run_script<O: Sink>(alloc: Global, script: Script, out: &mut O) -> Status
     }
 }
 
+/// Reads the script that the bytes spell, and runs it.
 fn run_bytes<O: Sink>(alloc: Global, bytes: &[u8], out: &mut O) -> Status
     requires { length bytes.now ≤ LIMIT }
     ensures ran { RanBytes result bytes.now (O.held out.old) (O.held out.new) }
@@ -98,6 +99,7 @@ fn run_bytes<O: Sink>(alloc: Global, bytes: &[u8], out: &mut O) -> Status
     }
 }
 
+/// Reads the input to its end, and runs the script that it spells.
 fn run_input<S: Source, O: Sink>(alloc: Global, input: &mut S, out: &mut O) -> Status
     ensures ran { RanInput result (S.left input.old) (S.left input.new) (O.held out.old) (O.held out.new) }
     ensures taken { TakesInput result (S.left input.old) (S.left input.new) }
@@ -115,8 +117,8 @@ fn run_input<S: Source, O: Sink>(alloc: Global, input: &mut S, out: &mut O) -> S
     }
 }
 
-/// Does the job of the words: it reads a script, runs it over the one empty table `t a:int`, and
-/// writes the printed history.
+/// Does the job of the words. `script SCRIPT` reads a script from `input`, runs it over the one
+/// empty table `t a:int`, and writes the printed history to `out`.
 pub fn run<I: Source, S: Source, J: Sink, O: Sink>(
     alloc: Global,
     words: &[String],
@@ -143,7 +145,7 @@ pub fn run<I: Source, S: Source, J: Sink, O: Sink>(
     ensures write_fault { result ≡ status.WriteFault → Rose (O.faults out.old) (O.faults out.new) }
     ensures write_later { O.faults out.old ≤ O.faults out.new }
 
-    // Where no text is due, the output is left as it was, and where the words are refused, so is the input.
+    // The output is touched only where the text is written, and the input only where the words are a command.
     ensures unwritten { UnlessWritten result (out.new ≡ out.old) }
     ensures unread { result ≡ status.Usage → input.new ≡ input.old }
 

@@ -7,13 +7,19 @@ use std::alloc::Global;
 /// How a call ends.
 #[derive(Clone, Copy, Debug, PartialEq, Eq)]
 pub enum Status {
+    /// The job is done, and its text is written.
     Done,
+    /// The words are no command.
     Usage,
     /// The first bad line, counted from 1, and the first rule that it breaks.
     BadScript { line: u32, rule: u8 },
+    /// A source has failed.
     ReadFault,
+    /// A sink has failed. A part of the text may have been written, from its front.
     WriteFault,
+    /// A request for memory was refused.
     NoMemory,
+    /// The input has more than 41,943,040 bytes.
     InputTooLong,
 }
 
