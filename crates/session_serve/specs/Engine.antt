@@ -1,17 +1,14 @@
--- The private engine: its rows and the sizes of its commits, and the table state that they stand for.
+-- The private engine: its rows, the sizes of its commits, and the table state that they stand for.
 use Rattle.std.specs.Prelude.{ℕ, ℤ, ◌≡◌, ◌+◌, List, [], ◌∷◌, codes, length, sum, take, drop, Option, option_map, slice_set}
 use Rattle.std.specs.Option.{ForNone}
 use Rattle.mv_model.specs.declared.value.Value.TheVariants.{Int}
-use Rattle.mv_model.specs.declared.shape.Kind.TheVariants as kind
-use Rattle.mv_model.specs.State.{CreatedRow, Table, WriteSet, Transaction, State, all_idle}
-
--- the table `t a:int` that has given out so many row numbers
-abbrev pub table_of : ℕ → Table
-table_of next_row = record { name = codes "t"; columns = record { name = codes "a"; kind = kind.Int } ∷ []; next_row = next_row }
+use Rattle.mv_model.specs.State.{CreatedRow, WriteSet, Transaction, State, all_idle}
+use Rattle.session_serve.specs.Runs.{table_of}
 
 -- the row of this number, with its one value
 abbrev pub created_row : ℕ → ℤ → CreatedRow
-created_row number value = record { key = record { table = 0; row = number }; values = Int value ∷ [] }
+created_row number value =
+    record { key = record { table = 0; row = number }; values = Int value ∷ [] }
 
 -- the rows with these values, numbered from a number on
 abbrev pub rows_from : ℕ → List ℤ → List CreatedRow
@@ -32,7 +29,7 @@ abbrev pub transaction_by : List ℕ → List CreatedRow → ℕ → Transaction
 transaction_by sizes rows number =
     record { number = number; snapshot = length sizes; writes = creates (drop (sum sizes) rows) }
 
--- the state with these values and commits, after so many transactions have begun, with this one open
+-- the state with these values and commits, after so many transactions have begun; this one is open
 abbrev pub state_by : List ℤ → List ℕ → ℕ → Option ℕ → State
 state_by values sizes begun opened =
     record {

@@ -20,7 +20,9 @@ paths_of_script input = record { image = None; input = Some input; image_out = N
 -- the command of these words: `script SCRIPT`
 abbrev pub command_of : List (List ℕ) → Option Command
 command_of (name ∷ path ∷ []) =
-    if pointwise nat_eq name (codes "script") && is_path path then Some (Run job.Script (paths_of_script path)) else None
+    if pointwise nat_eq name (codes "script") && is_path path
+    then Some (Run job.Script (paths_of_script path))
+    else None
 command_of other = None
 
 -- the words are refused exactly where they are no command, or memory ran out

@@ -42,7 +42,8 @@ fn answer_line(engine: &mut Engine, ordinal: u32, line: Line) -> Entry
 fn answer_script(alloc: Global, script: Script) -> Result<Vec<Entry>, NoMemory>
     requires { All IsBuiltLine script }
     ensures ran { IfOk result (λ history. IsHistoryOf one_empty_table script history.items) }
-    ensures integers { IfOk result (λ history. All (λ entry. HasIntegers entry.reply) history.items) }
+    ensures integers { IfOk result (λ history.
+        All (λ entry. HasIntegers entry.reply) history.items) }
 {
     let mut engine = Engine::new(alloc);
     let lines = script.into_vec();
@@ -101,11 +102,13 @@ fn run_bytes<O: Sink>(alloc: Global, bytes: &[u8], out: &mut O) -> Status
 
 /// Reads the input to its end, and runs the script that it spells.
 fn run_input<S: Source, O: Sink>(alloc: Global, input: &mut S, out: &mut O) -> Status
-    ensures ran { RanInput result (S.left input.old) (S.left input.new) (O.held out.old) (O.held out.new) }
+    ensures ran { RanInput result (S.left input.old) (S.left input.new)
+        (O.held out.old) (O.held out.new) }
     ensures taken { TakesInput result (S.left input.old) (S.left input.new) }
     ensures unwritten { UnlessWritten result (out.new ≡ out.old) }
     ensures read_later { S.faults input.old ≤ S.faults input.new }
-    ensures read_fault { result ≡ status.ReadFault → Rose (S.faults input.old) (S.faults input.new) }
+    ensures read_fault { result ≡ status.ReadFault
+        → Rose (S.faults input.old) (S.faults input.new) }
     ensures write_later { O.faults out.old ≤ O.faults out.new }
     ensures write_fault { result ≡ status.WriteFault → Rose (O.faults out.old) (O.faults out.new) }
 {
@@ -132,7 +135,8 @@ pub fn run<I: Source, S: Source, J: Sink, O: Sink>(
         (streams (I.left image.old) (S.left input.old) (J.held image_out.old) (O.held out.old))
         (streams (I.left image.new) (S.left input.new) (J.held image_out.new) (O.held out.new)) }
 
-    // The status is the one that is due to the words and the input, or memory ran out or a stream failed.
+    // The status is the one that is due to the words and the input, unless memory ran out or a
+    // stream failed.
     ensures due { IfSome (S.left input.old) (λ bytes.
         MayEnd (due_status (command_of (map string_bytes words.now)) bytes) result) }
 
@@ -140,12 +144,14 @@ pub fn run<I: Source, S: Source, J: Sink, O: Sink>(
     ensures taken { TakesInput result (S.left input.old) (S.left input.new) }
 
     // A fault is answered only where the stream's count rose, and no count falls.
-    ensures read_fault { result ≡ status.ReadFault → Rose (S.faults input.old) (S.faults input.new) }
+    ensures read_fault { result ≡ status.ReadFault
+        → Rose (S.faults input.old) (S.faults input.new) }
     ensures read_later { S.faults input.old ≤ S.faults input.new }
     ensures write_fault { result ≡ status.WriteFault → Rose (O.faults out.old) (O.faults out.new) }
     ensures write_later { O.faults out.old ≤ O.faults out.new }
 
-    // The output is touched only where the text is written, and the input only where the words are a command.
+    // The output is touched only where the text is written, and the input only where the words
+    // are a command.
     ensures unwritten { UnlessWritten result (out.new ≡ out.old) }
     ensures unread { result ≡ status.Usage → input.new ≡ input.old }
 
