@@ -1,2 +1,5 @@
 pub mod Clears
+pub mod Cuts
 pub mod EntryWords
+pub mod OneStore
+pub mod Retire
