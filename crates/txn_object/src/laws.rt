@@ -35,6 +35,12 @@ pub fn begin_law()
     ensures plan { (words : List ℕ) (object : ℕ) → HasObject words object → IsPlan (length words) (begin_parts object) }
     ensures writes { (object w : ℕ) → IsTrue (footprint (plan_of (begin_parts object)) w) ↔ (w ≡ state_at object) }
 
+    // The words before it and after it.
+    ensures cut { (object : ℕ) (base image : List ℕ) → IsBetween base (words_after (one_store (state_at object) 1) base) image →
+        (image ≡ base) ⊎ (image ≡ words_after (one_store (state_at object) 1) base) }
+    ensures after { (object : ℕ) (transaction : Transaction) (base : List ℕ) → HasObject base object → Shows base object transaction →
+        Shows (words_after (one_store (state_at object) 1) base) object (record transaction { state = 1 }) }
+
     ensures shows { (object : ℕ) (transaction : Transaction) (play : Play) (left : List Action) (d : Device) (image base : List ℕ) →
         IsCut play left d image base → play.parts ≡ begin_parts object → HasObject base object → Shows base object transaction →
         (Shows image object transaction) ⊎ (Shows image object (record transaction { state = 1 })) }

@@ -10,3 +10,6 @@ pub use entry::{Entry, EntryKind, EntryList};
 pub use laws::{begin_law, entries_law, entry_law, retire_law};
 pub use object::{entries, free_entries, plan_begin, push_entry, push_retire, retire_actions};
 pub use pm_model::NoMemory;
+
+#[cfg(test)]
+mod tests;
