@@ -1,0 +1,4 @@
+pub mod EntryListState
+pub mod Entries
+pub mod Object
+pub mod Shown
