@@ -1,16 +1,16 @@
 -- A begin and an entry: what the object shows after the one store that each of them is.
-use Rattle.std.proofs.Common.{◌≡◌, ◌⊎◌, inl, inr, ⊎_elim, ℕ, ◌+◌, ◌*◌, ◌/◌, ◌%◌, ◌^◌, ◌<◌, ◌≤◌, cond, eqb, List, [], ◌∷◌, ◌++◌, length, get_or, set, refl, sym, ◌∙◌, ap, subst, arith}
+use Rattle.std.proofs.Common.{◌≡◌, ◌⊎◌, inl, inr, ⊎_elim, ℕ, ◌+◌, ◌/◌, ◌%◌, ◌^◌, ◌<◌, cond, eqb, List, [], ◌∷◌, ◌++◌, set, sym, ◌∙◌, ap, subst, arith}
 use Rattle.std.proofs.lemmas.List.{get_or-set_same, get_or-set_other}
 use Rattle.std.proofs.lemmas.Bool.{cases_eq, cond-true, cond-false, eq-eqb, ne_eqb}
 use Rattle.pm_model.specs.declared.action.Action.{Action}
 use Rattle.pm_model.specs.Device.{Device}
 use Rattle.pm_model.specs.Fixed.{state_at, commit_word_at, entry_at}
-use Rattle.pm_model.specs.Plans.{Play, words_after}
+use Rattle.pm_model.specs.Plans.{Play}
 use Rattle.txn_object.specs.declared.entry.Entry.{Entry}
 use Rattle.txn_object.specs.declared.entry.EntryKind.{EntryKind}
 use Rattle.txn_object.specs.declared.entry.EntryKind.TheVariants.{Created, Ended}
 use Rattle.txn_object.specs.Entries.{kind_number, entry_word, entry_of}
-use Rattle.txn_object.specs.Object.{entries_in, begin_parts, entry_part}
+use Rattle.txn_object.specs.Object.{begin_parts, entry_part}
 use Rattle.txn_object.specs.Shown.{Transaction, Shows, HasObject, NoEntryFollowsZero, MayEnter, IsCut}
 use Rattle.txn_object.proofs.EntryWords.{word_at, entries_in-same, entries_in-set, entries_in-append, entries_in-rest}
 use Rattle.txn_object.proofs.Cuts.{cut-one_store, ended-one_store}

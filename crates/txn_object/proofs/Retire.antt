@@ -1,17 +1,17 @@
 -- A retire: the words that it writes, and what its parts leave.
-use Rattle.std.proofs.Common.{◌≡◌, ◌⊎◌, inl, inr, ⊎_elim, ◌↔◌, ℕ, zero, suc, ◌+◌, ◌*◌, ◌<◌, ◌≤◌, Bool, true, false, ◌||◌, IsTrue, cond, eqb, List, [], ◌∷◌, ◌++◌, length, map, get_or, set, refl, sym, ◌∙◌, ap, subst, append-nil, arith}
+use Rattle.std.proofs.Common.{◌≡◌, ◌⊎◌, inl, inr, ⊎_elim, ◌↔◌, ℕ, zero, suc, ◌+◌, ◌<◌, ◌≤◌, Bool, true, false, ◌||◌, IsTrue, cond, eqb, List, [], ◌∷◌, ◌++◌, length, map, get_or, set, refl, sym, ◌∙◌, ap, subst, append-nil, arith}
 use Rattle.std.specs.List.{range_with_len}
 use Rattle.std.proofs.Math.Bool.{or_assoc}
 use Rattle.std.proofs.lemmas.List.{get_or-set_same, get_or-set_other, length-set}
-use Rattle.std.proofs.lemmas.Bool.{cond-true, cond-false, eq-eqb, eqb-true, ne_eqb, cases_eq, cases_Bool, both_ways, or_parts, or_from, or_left, or_right, or_cases}
+use Rattle.std.proofs.lemmas.Bool.{eq-eqb, eqb-true, cases_eq, cases_Bool, both_ways, or_from, or_left, or_right, or_cases}
 use Rattle.pm_model.specs.declared.action.Action.{Action}
-use Rattle.pm_model.specs.declared.action.Action.TheVariants.{Store, Flush, Fence}
+use Rattle.pm_model.specs.declared.action.Action.TheVariants.{Flush, Fence}
 use Rattle.pm_model.specs.Fixed.{state_at, commit_word_at, entry_at}
-use Rattle.pm_model.specs.Device.{writes, cached_after, IsBetween}
+use Rattle.pm_model.specs.Device.{writes, IsBetween}
 use Rattle.pm_model.specs.Plans.{Part, store, one_store, unless_empty, lines_of, part_end, part_actions, plan_of, words_after, footprint, finished, IsPart, IsPlan, EachCut}
 use Rattle.pm_model.proofs.Alone.{length-words_after, words_after-append}
 use Rattle.pm_model.proofs.PlanLaw.{words_after-kept}
-use Rattle.txn_object.specs.Object.{entry_clears, clear_part, retire_parts, entries_in}
+use Rattle.txn_object.specs.Object.{clear_part, retire_parts, entries_in}
 use Rattle.txn_object.specs.Shown.{Shows, HasObject, NoEntryFollowsZero, IsCleared, IsRetiring, IsRetired}
 use Rattle.txn_object.proofs.EntryWords.{word_at, entries_in-none, entries_in-zero, entries_in-rest}
 use Rattle.txn_object.proofs.Cuts.{one_store-cut}

@@ -1,4 +1,4 @@
-use Rattle.std.proofs.Common.{◌≡◌, ℕ, length, replicate, sym, ap, subst, arith}
+use Rattle.std.proofs.Common.{◌≡◌, ℕ, length, sym, ap, subst, arith}
 use Rattle.std.proofs.lemmas.List.{length-replicate}
 use Rattle.pm_model.specs.Device.{Device}
 use Rattle.pm_model.specs.Plans.{MayPlay}
