@@ -14,7 +14,7 @@ use Rattle.pm_model.proofs.PlanLaw.{words_after-kept}
 use Rattle.txn_object.specs.Object.{clear_part, retire_parts, entries_in}
 use Rattle.txn_object.specs.Shown.{Shows, HasObject, NoEntryFollowsZero, IsCleared, IsRetiring, IsRetired}
 use Rattle.txn_object.proofs.EntryWords.{word_at, entries_in-none, entries_in-zero, entries_in-rest}
-use Rattle.txn_object.proofs.Cuts.{one_store-cut}
+use Rattle.pm_model.proofs.Cuts.{one_store-cut}
 
 -- ── what the parts write ──
 

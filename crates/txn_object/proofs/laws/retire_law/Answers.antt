@@ -1,6 +1,6 @@
 use Rattle.pm_model.specs.Fixed.{state_at}
 use Rattle.txn_object.proofs.Clears.{length-plan_of-retire}
-use Rattle.txn_object.proofs.Cuts.{one_store-cut}
+use Rattle.pm_model.proofs.Cuts.{one_store-cut}
 use Rattle.txn_object.proofs.Retire.{retire_plan, retire_writes, retire_idle, retire_each, retire_ends, retire_shows, retire_empty}
 use Rattle.txn_object.proofs.laws.retire_law.Goals as goal
 
