@@ -1,0 +1,2 @@
+pub mod StageImage
+pub mod States
