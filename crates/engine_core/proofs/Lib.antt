@@ -1,2 +1,4 @@
+pub mod Rows
 pub mod StageImage
 pub mod States
+pub mod Stores
