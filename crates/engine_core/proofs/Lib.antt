@@ -2,3 +2,5 @@ pub mod Rows
 pub mod StageImage
 pub mod States
 pub mod Stores
+pub mod Decisions
+pub mod Commits

@@ -1,3 +1,6 @@
 pub mod Stage
 pub mod LogicalState
 pub mod Served
+pub mod StagePlans
+pub mod StageRules
+pub mod Decided
