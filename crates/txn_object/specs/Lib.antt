@@ -1,0 +1,3 @@
+pub mod EntryListState
+pub mod Entries
+pub mod Object
