@@ -12,10 +12,10 @@ use Rattle.mv_model.specs.History.{IsAllowed}
 use Rattle.mv_model.specs.Next.{next}
 use Rattle.pm_model.specs.declared.action.Action.{Action}
 use Rattle.pm_model.specs.Fixed.{last_at, state_at, commit_word_at, entry_at}
-use Rattle.pm_model.specs.Plans.{Part, one_store, words_after, plan_of, finished, unless_empty, IsPlan}
+use Rattle.pm_model.specs.Plans.{Part, one_store, words_after, plan_of, store, finished, unless_empty, IsPart, IsPlan}
 use Rattle.pm_model.proofs.Alone.{length-words_after}
 use Rattle.txn_object.specs.Entries.{entry_word}
-use Rattle.txn_object.specs.Object.{clear_part, retire_parts}
+use Rattle.txn_object.specs.Object.{clear_part, entry_clears, retire_parts}
 use Rattle.engine_core.specs.Stage.{high_at, born_at, ended_at, value_at}
 use Rattle.engine_core.specs.StagePlans.{created_entry, stamp_part, commit_parts, close_parts}
 use Rattle.engine_core.specs.StageRules.{IsStage}
@@ -25,8 +25,8 @@ use Rattle.engine_core.specs.declared.transactions.Transactions.{Transactions}
 use Rattle.engine_core.specs.declared.transactions.Running.{Running}
 use Rattle.engine_core.proofs.Rows.{IsSameUpTo, commits_in-same, commits_in-more, rows_from-same, length-rows_from, length-commits_in, rows_where-interval, rows_where-none}
 use Rattle.engine_core.proofs.States.{creating, commit-answer, commit-next, commit-none, close-next}
-use Rattle.engine_core.proofs.Stores.{words_after-plan, get-stored, get-beside, one_store-part, get-run, get-run_beside, get-run_last, run-part}
-use Rattle.engine_core.proofs.Decisions.{state_without}
+use Rattle.engine_core.proofs.Stores.{words_after-plan, get-stored, get-beside, one_store-part, get-run, get-run_beside, get-run_last, run, run-part, stores-at}
+use Rattle.engine_core.proofs.Decisions.{state_with, state_without, switched, switch-same, switch-stage}
 
 unless_empty-last : (part : Part) (action : Action) → unless_empty (part ++ action ∷ []) ≡ (part ++ action ∷ []) ∷ []
 unless_empty-last [] action = refl
@@ -38,6 +38,11 @@ born_is row = refl
 
 entry_is : (nth : ℕ) → entry_at 0 nth ≡ 1028 + nth
 entry_is nth = omega arith
+
+-- the clearing of entries, as a run of stores
+clear_run : (count : ℕ) → clear_part 0 count true ≡ run 0 (λ nth. entry_at 0 nth) 1028 entry_is (commit_word_at 0) 0 0 count
+unfolding clear_part
+clear_run count = ap (λ (part : Part). part ++ one_store (commit_word_at 0) 0) (stores-at 0 (λ nth. entry_at 0 nth) (range_with_len 0 count))
 
 -- the parts of a commit, one by one
 abbrev five : ℕ → ℕ → ℕ → List Part
@@ -53,7 +58,7 @@ commit_parts-five : (first count number : ℕ) → commit_parts first count numb
 unfolding clear_part
 commit_parts-five first count number =
     ap (λ (parts : List Part). stamp_part first count number ∷ one_store (commit_word_at 0) number ∷ one_store last_at number ∷ one_store (state_at 0) 0 ∷ parts)
-    (unless_empty-last ? ?)
+    (unless_empty-last (entry_clears 0 count) (store (commit_word_at 0) 0))
 
 module _ (words : List ℕ) (begun number rows high last : ℕ) (stage : IsStage words (Some (record { number = number; rows = rows })))
   (is_high : get_or words high_at 0 ≡ high) (is_last : get_or words last_at 0 ≡ last) (some : 0 < rows) (room : last < MAX_COMMITS) where
@@ -90,18 +95,15 @@ module _ (words : List ℕ) (begun number rows high last : ℕ) (stage : IsStage
       omega (arith, one, two, three, four)
 
   clear-beside : (w : ℕ) → (w < 1028) ⊎ (1028 + rows ≤ w) → w ≢ 1025 → get_or cleared w 0 ≡ get_or idle w 0
-  unfolding clear_part
-  clear-beside w out apart = get-run_beside 0 (λ nth. entry_at 0 nth) 1028 entry_is (commit_word_at 0) 0 0 rows idle w
+  clear-beside w out apart = ap (λ (part : Part). get_or (words_after part idle) w 0) (clear_run rows) ∙ get-run_beside 0 (λ nth. entry_at 0 nth) 1028 entry_is (commit_word_at 0) 0 0 rows idle w
       (⊎_elim (λ (low : w < 1028). inl (omega (arith, low))) (λ (above : 1028 + rows ≤ w). inr (omega (arith, above))) out) apart
 
   clear-entry : (nth : ℕ) → nth < rows → get_or cleared (1028 + nth) 0 ≡ 0
-  unfolding clear_part
-  clear-entry nth lt = get-run 0 (λ nth. entry_at 0 nth) 1028 entry_is (commit_word_at 0) 0 0 rows idle nth (omega arith) (omega (arith, lt))
+  clear-entry nth lt = ap (λ (part : Part). get_or (words_after part idle) (1028 + nth) 0) (clear_run rows) ∙ get-run 0 (λ nth. entry_at 0 nth) 1028 entry_is (commit_word_at 0) 0 0 rows idle nth (omega arith) (omega (arith, lt))
       (let l = length-idle in let s = size in let f = few in omega (arith, l, s, f)) (λ e. omega (arith, e))
 
   clear-word : get_or cleared 1025 0 ≡ 0
-  unfolding clear_part
-  clear-word = get-run_last 0 (λ nth. entry_at 0 nth) 1028 entry_is (commit_word_at 0) 0 0 rows idle (let l = length-idle in let s = size in omega (arith, l, s))
+  clear-word = ap (λ (part : Part). get_or (words_after part idle) 1025 0) (clear_run rows) ∙ get-run_last 0 (λ nth. entry_at 0 nth) 1028 entry_is (commit_word_at 0) 0 0 rows idle (let l = length-idle in let s = size in omega (arith, l, s))
 
   -- a word that only the stamps may change
   late-beside : (w : ℕ) → w ≢ 514 → w ≢ 1024 → w ≢ 1025 → (w < 1028) ⊎ (1028 + rows ≤ w) → get_or cleared w 0 ≡ get_or stamped w 0
@@ -226,13 +228,72 @@ module _ (words : List ℕ) (begun number rows high last : ℕ) (stage : IsStage
   }
 
   commit-plan : IsPlan (length words) (five high rows (last + 1))
-  unfolding clear_part
   commit-plan =
-      let s = size in let r = within in let f = few in (
-        run-part (last + 1) born_at 2048 born_is high_at (high + rows) (length words) high rows (omega (arith, s, r)) (omega (arith, s)) (λ k low above e. omega (arith, e)),
-        one_store-part (length words) (commit_word_at 0) (last + 1) (omega (arith, s)),
-        one_store-part (length words) last_at (last + 1) (omega (arith, s)),
-        one_store-part (length words) (state_at 0) 0 (omega (arith, s)),
-        run-part 0 (λ nth. entry_at 0 nth) 1028 entry_is (commit_word_at 0) 0 (length words) 0 rows (omega (arith, s, f)) (omega (arith, s)) (λ k low above e. omega (arith, e)),
-        tt,
-      )
+      let s = size in let r = within in let f = few in
+      (run-part (last + 1) born_at 2048 born_is high_at (high + rows) (length words) high rows (omega (arith, s, r)) (omega (arith, s)) (λ k low above e. omega (arith, e)),
+      (one_store-part (length words) (commit_word_at 0) (last + 1) (omega (arith, s)),
+      (one_store-part (length words) last_at (last + 1) (omega (arith, s)),
+      (one_store-part (length words) (state_at 0) 0 (omega (arith, s)),
+      (subst (IsPart (length words)) (sym (clear_run rows))
+      (run-part 0 (λ nth. entry_at 0 nth) 1028 entry_is (commit_word_at 0) 0 (length words) 0 rows (omega (arith, s, f)) (omega (arith, s)) (λ k low above e. omega (arith, e))), tt)))))
+
+  pub commit-decided : (commit : ℕ) (actions : List Action) → commit ≡ last + 1 → actions ≡ plan_of (commit_parts high rows commit) → length actions ≤ 400
+      → IsDecided words (record { begun = begun; running = Some (record { number = number; rows = rows }) }) call.Commit (reply.Committed commit) actions (record { begun = begun; running = None })
+  commit-decided commit actions is_commit is_actions short =
+      let five_is : commit_parts high rows commit ≡ five high rows (last + 1) = ap (commit_parts high rows) is_commit ∙ commit_parts-five high rows (last + 1) in
+      let plan_is : actions ≡ plan_of (five high rows (last + 1)) = is_actions ∙ ap plan_of five_is in
+      let after : words_after actions words ≡ cleared = ap (λ (xs : List Action). words_after xs words) plan_is ∙ words_after-plan (five high rows (last + 1)) words in
+      let created = rows_from words high rows in
+      let commits = commits_in words last in
+      let count = length-rows_from words high rows in
+      let many = length-commits_in words last in
+      let before = state_with words begun number rows high last commits created is_high is_last refl refl in
+      let same : high + rows ≡ high + rows + 0 = omega arith in
+      record {
+        allowed = subst (λ (s : State). IsAllowed s 1 call.Commit (reply.Committed commit)) (sym before) (sym (commit-answer (high + rows) commits begun number last created (omega (arith, count, some)) (omega (arith, many, room)) ∙ ap (λ (n : ℕ). reply.Committed n) (ap (λ (n : ℕ). n + 1) many ∙ sym is_commit)));
+        parts = five high rows (last + 1);
+        plan = commit-plan;
+        plan_is = plan_is;
+        state =
+            ap (λ (s : State). next s 1 call.Commit (reply.Committed commit)) before
+            ∙ commit-next (high + rows) commits begun number last created commit
+            ∙ ap (λ (n : ℕ). state_by n (commits ++ record { created = created; ended = [] } ∷ []) begun None) same
+            ∙ sym (state_without cleared begun (high + rows) (last + 1) (commits ++ record { created = created; ended = [] } ∷ []) new_high new_last commit-commits)
+            ∙ ap (λ (new : List ℕ). state_of new (record { begun = begun; running = None })) (sym after);
+        stage = rw after commit-stage;
+        short = short;
+        begun = omega arith;
+      }
+
+-- ── the end of a transaction that wrote nothing ──
+
+close_parts-one : close_parts ≡ one_store (state_at 0) 0 ∷ []
+unfolding clear_part
+close_parts-one = refl
+
+pub close-decided : (words : List ℕ) (begun number rows : ℕ) (stage : IsStage words (Some (record { number = number; rows = rows }))) (actions : List Action) → rows ≡ 0 → actions ≡ plan_of close_parts → length actions ≤ 400
+    → IsDecided words (record { begun = begun; running = Some (record { number = number; rows = rows }) }) call.Commit reply.ReadOnly actions (record { begun = begun; running = None })
+close-decided words begun number rows stage actions none is_actions short =
+    let high = get_or words high_at 0 in
+    let last = get_or words last_at 0 in
+    let commits = commits_in words last in
+    let plan_is : actions ≡ plan_of (one_store (state_at 0) 0 ∷ []) = is_actions ∙ ap plan_of close_parts-one in
+    let new = words_after (one_store (state_at 0) 0) words in
+    let after : words_after actions words ≡ words_after (one_store (state_at 0) 0) words = ap (λ (xs : List Action). words_after xs words) plan_is ∙ words_after-plan (one_store (state_at 0) 0 ∷ []) words in
+    let before : state_of words (record { begun = begun; running = Some (record { number = number; rows = rows }) }) ≡ state_by (high + 0) commits begun (Some (creating number last [])) =
+    ap (λ (r : ℕ). state_of words (record { begun = begun; running = Some (record { number = number; rows = r }) })) none in
+    record {
+      allowed = subst (λ (s : State). IsAllowed s 1 call.Commit reply.ReadOnly) (sym before) (sym (commit-none (high + 0) commits begun number last));
+      parts = one_store (state_at 0) 0 ∷ [];
+      plan = (one_store-part (length words) (state_at 0) 0 (let s = stage.size in omega (arith, s)), tt);
+      plan_is = plan_is;
+      state =
+          ap (λ (s : State). next s 1 call.Commit reply.ReadOnly) before
+          ∙ close-next (high + 0) commits begun (Some (creating number last []))
+          ∙ sym (state_without (words_after (one_store (state_at 0) 0) words) begun high last commits (switched words 0 high_at (λ e. omega (arith, e))) (switched words 0 last_at (λ e. omega (arith, e)))
+          (commits_in-same last words (words_after (one_store (state_at 0) 0) words) (switch-same words 0)))
+          ∙ ap (λ (xs : List ℕ). state_of xs (record { begun = begun; running = None })) (sym after);
+      stage = rw after (switch-stage words 0 (Some (record { number = number; rows = rows })) None stage none refl refl);
+      short = short;
+      begun = omega arith;
+    }

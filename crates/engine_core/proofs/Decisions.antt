@@ -21,10 +21,10 @@ use Rattle.txn_object.specs.Entries.{entry_word}
 use Rattle.txn_object.specs.Object.{begin_parts}
 use Rattle.engine_core.specs.Stage.{high_at, born_at, ended_at, value_at}
 use Rattle.engine_core.specs.StagePlans.{created_entry, insert_parts, commit_parts, close_parts}
-use Rattle.engine_core.specs.StageRules.{IsStage}
+use Rattle.engine_core.specs.StageRules.{IsStage, state_word}
 use Rattle.engine_core.specs.Served.{get_of, insert_of}
 use Rattle.engine_core.specs.Decided.{IsDecided}
-use Rattle.engine_core.specs.LogicalState.{commits_in, created_row, integer_of, key_of, rows_from, state_by, state_of, transaction_in}
+use Rattle.engine_core.specs.LogicalState.{commits_in, created_row, integer_of, key_of, rows_from, rows_of, state_by, state_of}
 use Rattle.engine_core.specs.declared.transactions.Transactions.{Transactions}
 use Rattle.engine_core.specs.declared.transactions.Running.{Running}
 use Rattle.engine_core.proofs.Rows.{IsSameUpTo, commits_in-same, rows_from-same, rows_from-more, length-rows_from, length-commits_in}
@@ -46,7 +46,7 @@ refused words now call given stage allowed same = record {
 }
 
 -- what the words stand for, part by part
-state_with : (new : List ℕ) (begun number rows high last : ℕ) (commits : List WriteSet) (created : List CreatedRow)
+pub state_with : (new : List ℕ) (begun number rows high last : ℕ) (commits : List WriteSet) (created : List CreatedRow)
     → get_or new high_at 0 ≡ high → get_or new last_at 0 ≡ last → commits_in new last ≡ commits → rows_from new high rows ≡ created
     → state_of new (record { begun = begun; running = Some (record { number = number; rows = rows }) }) ≡ state_by (high + rows) commits begun (Some (creating number last created))
 state_with new begun number rows high last commits created is_high is_last is_commits is_created =
@@ -55,7 +55,7 @@ state_with new begun number rows high last commits created is_high is_last is_co
     ∙ ap (λ (c : List WriteSet). state_by (high + rows) c begun (Some (creating number last (rows_from new high rows)))) is_commits
     ∙ ap (λ (c : List CreatedRow). state_by (high + rows) commits begun (Some (creating number last c))) is_created
 
-state_without : (new : List ℕ) (begun high last : ℕ) (commits : List WriteSet)
+pub state_without : (new : List ℕ) (begun high last : ℕ) (commits : List WriteSet)
     → get_or new high_at 0 ≡ high → get_or new last_at 0 ≡ last → commits_in new last ≡ commits
     → state_of new (record { begun = begun; running = None }) ≡ state_by (high + 0) commits begun None
 state_without new begun high last commits is_high is_last is_commits =
@@ -63,50 +63,47 @@ state_without new begun high last commits is_high is_last is_commits =
     ∙ ap (λ (l : ℕ). state_by (high + 0) (commits_in new l) begun None) is_last
     ∙ ap (λ (c : List WriteSet). state_by (high + 0) c begun None) is_commits
 
+-- ── an object that is opened or made idle ──
+
+module _ (words : List ℕ) (value : ℕ) where
+  pub switched : (w : ℕ) → w ≢ 1024 → get_or (words_after (one_store (state_at 0) value) words) w 0 ≡ get_or words w 0
+  switched w apart = get-beside words (state_at 0) value w apart
+
+  pub switch-same : IsSameUpTo (get_or words last_at 0) words (words_after (one_store (state_at 0) value) words)
+  switch-same = record {
+    born = λ row number lt low high. ap (λ (x : ℕ). eqb x number) (switched (born_at row) (λ e. omega (arith, e)));
+    ended = λ row number lt low high. ap (λ (x : ℕ). eqb x number) (switched (ended_at row) (λ e. omega (arith, e)));
+    value = λ row lt low high. switched (value_at row) (λ e. omega (arith, e));
+  }
+
+  pub switch-stage : (old new : Option Running) → IsStage words old → rows_of old ≡ 0 → rows_of new ≡ 0 → state_word new ≡ value → IsStage (words_after (one_store (state_at 0) value) words) new
+  switch-stage old new stage none_old none_new is_value =
+      let high = switched high_at (λ e. omega (arith, e)) in
+      let last = switched last_at (λ e. omega (arith, e)) in
+      let born = λ (row : ℕ). switched (born_at row) (λ e. omega (arith, e)) in
+      record {
+        size = let size = length-words_after (one_store (state_at 0) value) words in let old = stage.size in omega (arith, size, old);
+        last = let old = stage.last in omega (arith, last, old);
+        few = omega (arith, none_new);
+        room = let old = stage.room in omega (arith, high, old, none_new);
+        born = λ row lt. ⊎_elim (λ (le : get_or words (born_at row) 0 ≤ get_or words last_at 0). inl (let b = born row in omega (arith, b, le, last))) (λ dead. inr (born row ∙ dead)) (stage.born row lt);
+        unborn = λ row low lt. born row ∙ stage.unborn row (omega (arith, high, low)) lt;
+        ended = λ row lt. let e = switched (ended_at row) (λ e. omega (arith, e)) in let old = stage.ended row lt in omega (arith, e, last, old);
+        state = get-stored words (state_at 0) value (let s = stage.size in omega (arith, s)) ∙ sym is_value;
+        commit_word = switched (commit_word_at 0) (λ e. omega (arith, e)) ∙ stage.commit_word;
+        entries = λ nth lt. absurd (omega (arith, lt, none_new));
+        free = λ nth low lt. switched (entry_at 0 nth) (λ e. omega (arith, e)) ∙ stage.free nth (omega (arith, none_old)) lt;
+        others = λ object low lt. switched (state_at object) (λ e. omega (arith, e, low)) ∙ stage.others object low lt;
+      }
+
 -- ── begin ──
 
 module _ (words : List ℕ) (begun : ℕ) (stage : IsStage words None) where
-  begun_words : List ℕ
-  begun_words = words_after (one_store (state_at 0) 1) words
-
-  abbrev one_more : Transactions
-  one_more = record { begun = begun + 1; running = Some (record { number = begun + 1; rows = 0 }) }
-
-  begin-beside : (w : ℕ) → w ≢ 1024 → get_or (words_after (one_store (state_at 0) 1) words) w 0 ≡ get_or words w 0
-  begin-beside w apart = get-beside words (state_at 0) 1 w apart
-
-  begin-same : IsSameUpTo (get_or words last_at 0) words (words_after (one_store (state_at 0) 1) words)
-  begin-same = record {
-    born = λ row number lt low high. ap (λ (x : ℕ). eqb x number) (begin-beside (born_at row) (λ e. omega (arith, e)));
-    ended = λ row number lt low high. ap (λ (x : ℕ). eqb x number) (begin-beside (ended_at row) (λ e. omega (arith, e)));
-    value = λ row lt low high. begin-beside (value_at row) (λ e. omega (arith, e));
-  }
-
   begin-state : state_of (words_after (one_store (state_at 0) 1) words) (record { begun = begun + 1; running = Some (record { number = begun + 1; rows = 0 }) })
       ≡ state_by (get_or words high_at 0 + 0) (commits_in words (get_or words last_at 0)) (begun + 1) (Some (creating (begun + 1) (get_or words last_at 0) []))
   begin-state = state_with (words_after (one_store (state_at 0) 1) words) (begun + 1) (begun + 1) 0 (get_or words high_at 0) (get_or words last_at 0) (commits_in words (get_or words last_at 0)) []
-      (begin-beside high_at (λ e. omega (arith, e))) (begin-beside last_at (λ e. omega (arith, e)))
-      (commits_in-same (get_or words last_at 0) words (words_after (one_store (state_at 0) 1) words) begin-same) refl
-
-  begin-stage : IsStage (words_after (one_store (state_at 0) 1) words) (Some (record { number = begun + 1; rows = 0 }))
-  begin-stage =
-      let high = begin-beside high_at (λ e. omega (arith, e)) in
-      let last = begin-beside last_at (λ e. omega (arith, e)) in
-      let born = λ (row : ℕ). begin-beside (born_at row) (λ e. omega (arith, e)) in
-      record {
-        size = let size = length-words_after (one_store (state_at 0) 1) words in let old = stage.size in omega (arith, size, old);
-        last = let old = stage.last in omega (arith, last, old);
-        few = omega arith;
-        room = let old = stage.room in omega (arith, high, old);
-        born = λ row lt. ⊎_elim (λ (le : get_or words (born_at row) 0 ≤ get_or words last_at 0). inl (let b = born row in omega (arith, b, le, last))) (λ dead. inr (born row ∙ dead)) (stage.born row lt);
-        unborn = λ row low lt. born row ∙ stage.unborn row (omega (arith, high, low)) lt;
-        ended = λ row lt. let e = begin-beside (ended_at row) (λ e. omega (arith, e)) in let old = stage.ended row lt in omega (arith, e, last, old);
-        state = get-stored words (state_at 0) 1 (let s = stage.size in omega (arith, s));
-        commit_word = begin-beside (commit_word_at 0) (λ e. omega (arith, e)) ∙ stage.commit_word;
-        entries = λ nth lt. absurd (omega (arith, lt));
-        free = λ nth low lt. begin-beside (entry_at 0 nth) (λ e. omega (arith, e)) ∙ stage.free nth (omega arith) lt;
-        others = λ object low lt. begin-beside (state_at object) (λ e. omega (arith, e, low)) ∙ stage.others object low lt;
-      }
+      (switched words 1 high_at (λ e. omega (arith, e))) (switched words 1 last_at (λ e. omega (arith, e)))
+      (commits_in-same (get_or words last_at 0) words (words_after (one_store (state_at 0) 1) words) (switch-same words 1)) refl
 
   pub begin-decided : (number snapshot : ℕ) (actions : List Action) → number ≡ begun + 1 → snapshot ≡ get_or words last_at 0 → actions ≡ plan_of (begin_parts 0) → length actions ≤ 400
       → IsDecided words (record { begun = begun; running = None }) call.Begin (reply.Began number snapshot) actions (record { begun = number; running = Some (record { number = number; rows = 0 }) })
@@ -120,7 +117,7 @@ module _ (words : List ℕ) (begun : ℕ) (stage : IsStage words None) where
         plan = (one_store-part (length words) (state_at 0) 1 (let s = stage.size in omega (arith, s)), tt);
         plan_is = is_actions;
         state = rw (is_snapshot, after) (begin-next (get_or words high_at 0 + 0) commits begun (begun + 1) (get_or words last_at 0) ∙ sym begin-state);
-        stage = rw after begin-stage;
+        stage = rw after (switch-stage words 1 None (Some (record { number = begun + 1; rows = 0 })) stage refl refl refl);
         short = short;
         begun = omega arith;
       })
@@ -214,7 +211,7 @@ module _ (words : List ℕ) (begun number rows : ℕ) (stage : IsStage words (So
         allowed = sym (insert-answer given commits begun number (get_or words last_at 0) created value (omega (arith, count, few)) (omega (arith, is_row, fewer)) ∙ ap reply.Row (sym is_row));
         parts = insert_parts rows row word;
         plan = (one_store-part (length words) (entry_at 0 rows) (entry_word (created_entry row)) (let s = stage.size in omega (arith, s, few)),
-          one_store-part (length words) (value_at row) word (let s = stage.size in omega (arith, s, fewer)), tt);
+          (one_store-part (length words) (value_at row) word (let s = stage.size in omega (arith, s, fewer)), tt));
         plan_is = is_actions;
         state =
             insert-next given commits begun number (get_or words last_at 0) created value row

@@ -4,3 +4,4 @@ pub mod States
 pub mod Stores
 pub mod Decisions
 pub mod Commits
+pub mod Readings

@@ -14,7 +14,7 @@ use Rattle.std.proofs.lemmas.Map.Views.{any-filter_same}
 use Rattle.std.proofs.lemmas.List.{map-append}
 use Rattle.std.proofs.lemmas.List.Folds.{list_any-append}
 use Rattle.engine_core.specs.Stage.{born_at, ended_at, value_at}
-use Rattle.engine_core.specs.LogicalState.{commit_of, commits_in, created_row, key_of, integer_of, rows_from, rows_where}
+use Rattle.engine_core.specs.LogicalState.{commit_of, commits_in, created_row, key_of, integer_of, rows_from, rows_where, within}
 
 -- ── ranges ──
 
@@ -104,10 +104,6 @@ rows_where-interval p first count room low within high =
 -- the number is among these
 abbrev has : List ℕ → ℕ → Bool
 has numbers x = list_any (λ k. eqb k x) numbers
-
--- the number is among so many from the first on
-abbrev pub within : ℕ → ℕ → ℕ → Bool
-within first n x = leb first x && ltb x (first + n)
 
 -- it is the first one, or among those behind it
 within-step : (first n x : ℕ) → (eqb first x || within (first + 1) n x) ≡ within first (suc n) x

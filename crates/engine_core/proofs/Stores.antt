@@ -49,6 +49,11 @@ one_store-part size place value within = (tt, within, (λ w hit. refl), tt)
 
 -- ── a run of stores, and one more ──
 
+-- the same stores, written at once
+pub stores-at : (value : ℕ) (place : ℕ → ℕ) (ks : List ℕ) → map (λ k. store (place k) value) ks ≡ stores value (map place ks)
+stores-at value place [] = refl
+stores-at value place (k ∷ ks) = ap (λ (part : Part). store (place k) value ∷ part) (stores-at value place ks)
+
 module _ (value : ℕ) (place : ℕ → ℕ) (base : ℕ) (is : (k : ℕ) → place k ≡ base + k) (last last_value : ℕ) where
   -- one value at so many places from the first on, and then a value at the last one
   abbrev pub run : ℕ → ℕ → Part

@@ -1,5 +1,5 @@
 -- The table state that the words of a stage image stand for.
-use Rattle.std.specs.Prelude.{ℕ, ℤ, zero, suc, ◌+◌, ◌/◌, ◌%◌, ◌^◌, ◌==◌, max, Bool, if◌then◌else◌, codes, List, [], ◌∷◌, length, map, filter, Option, None, option_map, slice_set, slice_index}
+use Rattle.std.specs.Prelude.{ℕ, ℤ, zero, suc, ◌+◌, ◌/◌, ◌%◌, ◌^◌, ◌==◌, ◌&&◌, ◌||◌, not, nat_le, nat_lt, max, Bool, if◌then◌else◌, codes, List, [], ◌∷◌, length, map, filter, Option, None, option_map, slice_set, slice_index}
 use Rattle.std.specs.List.{range_with_len}
 use Rattle.std.specs.Option.{option_map_or}
 use Rattle.std.specs.Int.{cast_signed}
@@ -85,6 +85,18 @@ logical_state words = record {
 }
 
 -- ── the open transaction ──
+
+-- the number is among so many from the first on
+abbrev pub within : ℕ → ℕ → ℕ → Bool
+within first count number = nat_le first number && nat_lt number (first + count)
+
+-- The open transaction sees the row: no commit ended it, and a commit or the transaction itself created it.
+abbrev pub is_seen : List ℕ → ℕ → ℕ → Bool
+is_seen words own row =
+    let last = slice_index words last_at in
+    let is_row = within 0 4096 row in
+    not (within 1 last (slice_index words (ended_at row)) && is_row)
+    && (within 1 last (slice_index words (born_at row)) && is_row || within (slice_index words high_at) own row)
 
 -- so many rows from this one on
 abbrev pub rows_from : List ℕ → ℕ → ℕ → List CreatedRow
