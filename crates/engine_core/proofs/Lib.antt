@@ -5,3 +5,4 @@ pub mod Stores
 pub mod Decisions
 pub mod Commits
 pub mod Readings
+pub mod StampPlans

@@ -1,6 +1,9 @@
 //! The core of the store: sessions that step over the words of a device, one action or one decision at a time.
 #![tactic(auto)]
 
+mod decision;
+mod layout;
+mod plans;
 mod stage;
 mod transactions;
 
