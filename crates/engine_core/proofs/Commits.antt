@@ -261,6 +261,7 @@ module _ (words : List ℕ) (begun number rows high last : ℕ) (stage : IsStage
             ∙ sym (state_without cleared begun (high + rows) (last + 1) (commits ++ record { created = created; ended = [] } ∷ []) new_high new_last commit-commits)
             ∙ ap (λ (new : List ℕ). state_of new (record { begun = begun; running = None })) (sym after);
         stage = rw after commit-stage;
+        full = tt;
         short = short;
         begun = omega arith;
       }
@@ -293,6 +294,7 @@ close-decided words begun number rows stage actions none is_actions short =
           ∙ sym (state_without (words_after (one_store (state_at 0) 0) words) begun high last commits (switched words 0 high_at (λ e. omega (arith, e))) (switched words 0 last_at (λ e. omega (arith, e)))
           (commits_in-same last words (words_after (one_store (state_at 0) 0) words) (switch-same words 0)))
           ∙ ap (λ (xs : List ℕ). state_of xs (record { begun = begun; running = None })) (sym after);
+      full = tt;
       stage = rw after (switch-stage words 0 (Some (record { number = number; rows = rows })) None stage none refl refl);
       short = short;
       begun = omega arith;

@@ -6,3 +6,9 @@ pub mod Decisions
 pub mod Commits
 pub mod Readings
 pub mod StampPlans
+pub mod Answered
+pub mod Histories
+pub mod Steps
+pub mod CoreSteps
+pub mod Movements
+pub mod FreshCore

@@ -27,7 +27,7 @@ module _ (given : ℕ) (commits : List WriteSet) (begun : ℕ) where
       ≡ state_by given commits (begun + 1) (Some (creating number snapshot []))
   begin-next number snapshot = refl
 
-  pub insert-answer : (number snapshot : ℕ) (created : List CreatedRow) (value : ℤ) → length created < 60 → given < 4096
+  pub insert-answer : (number snapshot : ℕ) (created : List CreatedRow) (value : ℤ) → length created ≤ 60 → given ≤ 4096
       → answer (state_by given commits begun (Some (creating number snapshot created))) 1 (insert_of value) ≡ reply.Row given
   insert-answer number snapshot created value few fewer =
       let fits : nat_lt MAX_WRITES (length created + 0 + 1) ≡ false = grind (arith, nat_tests) in

@@ -16,6 +16,7 @@ use Rattle.engine_core.specs.StageRules.{IsStage}
 use Rattle.engine_core.specs.LogicalState.{state_of}
 use Rattle.engine_core.specs.StagePlans.{close_parts}
 use Rattle.engine_core.specs.declared.decision.Decision.{Decision}
+use Rattle.engine_core.specs.declared.decision.Late.{Late}
 use Rattle.engine_core.specs.declared.transactions.Transactions.{Transactions}
 
 -- the actions that are left to play
@@ -36,20 +37,20 @@ IsFullWhere state other = Unit {0}
 
 -- From these words and transactions the call is given this reply: the sequential table allows it; and once these actions
 -- were played, the words and the transactions stand for the state that it leaves.
-pub record IsDecided (words : List ℕ) (before : Transactions) (call : Call) (given : Reply) (actions : List Action) (after : Transactions) : Type 0 where
-  pub allowed : IsAllowed (state_of words before) 1 call reply
+pub record IsDecided (words : List ℕ) (before : Transactions) (said : Call) (given : Reply) (actions : List Action) (after : Transactions) : Type 0 where
+  pub allowed : IsAllowed (state_of words before) 1 said given
   pub parts : List Part
   pub plan : IsPlan (length words) parts
   pub plan_is : actions ≡ plan_of parts
-  pub state : next (state_of words before) 1 call reply ≡ state_of (words_after actions words) after
+  pub state : next (state_of words before) 1 said given ≡ state_of (words_after actions words) after
   pub stage : IsStage (words_after actions words) after.running
-  pub full : IsFullWhere (state_of words before) reply
+  pub full : IsFullWhere (state_of words before) given
   pub short : length actions ≤ 400
   pub begun : after.begun ≤ before.begun + 1
 
--- A commit gets its place in the history while its plan is played, when so many actions are left; every other call at its decision.
-abbrev pub IsPlacedLate : Option ℕ → Call → Reply → List Action → Type 0
-IsPlacedLate (Some late) said (reply.Committed number) left = (said ≡ call.Commit) × (late < length left)
+-- A commit gets its place in the history, and its number, while its plan is played; every other call at its decision.
+abbrev pub IsPlacedLate : Option Late → Call → Reply → List Action → Type 0
+IsPlacedLate (Some late) said (reply.Committed number) left = (said ≡ call.Commit) × (late.number ≡ number) × (late.left < length left)
 IsPlacedLate (Some late) said other left = ⊥
 IsPlacedLate None said (reply.Committed number) left = ⊥
 IsPlacedLate None said other left = Unit {0}

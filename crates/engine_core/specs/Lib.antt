@@ -4,3 +4,5 @@ pub mod Served
 pub mod StagePlans
 pub mod StageRules
 pub mod Decided
+pub mod CoreState
+pub mod Kept

@@ -16,6 +16,13 @@ use pm_model::{Memory, NoMemory, OBJECT_ENTRIES, Plan, last_commit};
 use std::alloc::Global;
 use txn_object::plan_begin;
 
+/// A commit that gets its place in the history, and this number, once so many actions of its plan are left.
+#[derive(Clone, Copy, Debug)]
+pub(crate) struct Late {
+    pub number: u64,
+    pub left: u32,
+}
+
 /// What a call comes to.
 #[derive(Drop)]
 pub(crate) struct Decision {
@@ -24,8 +31,8 @@ pub(crate) struct Decision {
     pub copy: Reply,
     pub plan: Option<Plan>,
     pub after: Transactions,
-    /// How many actions are left when the call gets its place in the history, where that is not at the decision.
-    pub late: Option<u32>,
+    /// When the call gets its place in the history, where that is not at the decision.
+    pub late: Option<Late>,
 }
 
 /// Decides a call of session 1. Where memory is wanted and not there, the reply is that, and nothing changes.
@@ -209,7 +216,10 @@ fn commit<M: Memory>(alloc: Global, memory: &M, begun: u64, own: Running) -> Res
         reply,
         plan: Some(made.plan),
         after: Transactions { begun, running: None },
-        late: Some(made.late),
+        late: Some(Late {
+            number: last + 1,
+            left: made.late,
+        }),
     })
 }
 

@@ -2,10 +2,14 @@
 #![tactic(auto)]
 
 mod decision;
+mod flight;
 mod layout;
 mod plans;
 mod stage;
+mod store_core;
 mod transactions;
 
+pub use flight::Step;
 pub use pm_model::NoMemory;
 pub use stage::stage_fresh;
+pub use store_core::Core;

@@ -67,6 +67,7 @@ pub(crate) fn plan_commit(alloc: Global, first: u32, count: u32, number: u64) ->
     requires in_table { first + count ≤ 4096 }
     ensures left { IfOk result (λ made. made.plan.left ≡ plan_of (commit_parts first count number)) }
     ensures late { IfOk result (λ made. made.late ≡ length (plan_of (commit_late count number))) }
+    ensures later { IfOk result (λ made. made.late < length made.plan.left) }
     ensures actions { IfOk result (λ made. length made.plan.left ≤ 256) }
 {
     let mut plan = Plan::with_room(alloc, 4 * count + COMMIT_ACTIONS)?;
