@@ -1,7 +1,7 @@
 // The call that a session has in flight, and its steps.
 ghost use Rattle.std.specs.Prelude.{◌≡◌, ◌+◌, ◌-◌, ◌^◌, ◌<◌, ◌≤◌, ◌++◌, List, [], ◌∷◌, IsNone, IfSome, IsTrue, ◌↔◌, length, vec_len, vec_capacity};
 ghost use Rattle.mv_model.specs.declared.reply.Entry.{Entry};
-ghost use Rattle.engine_core.specs.CoreState.{IsEntered, IsPlacedAt, IsWaiting, Last, answered, in_flight_of, pending, unanswered};
+ghost use Rattle.engine_core.specs.CoreState.{IsEntered, IsPlacedAt, IsWaiting, Last, Nothing, answered, in_flight_of, pending, unanswered};
 ghost use Rattle.engine_core.specs.declared.flight.Flight.TheVariants.{Idle, Placed, Waiting};
 ghost use Rattle.engine_core.specs.Decided.{left_of};
 
@@ -125,6 +125,13 @@ pub(crate) fn put_flight(flight: &mut Flight, next: Flight)
     ensures { flight.new ≡ next }
 {
     *flight = next;
+}
+
+/// Whether no call is in flight.
+pub(crate) fn is_idle(flight: &Flight) -> bool
+    ensures { IsTrue result ↔ (in_flight_of flight.now ≡ Nothing) }
+{
+    matches!(flight, Flight::Idle)
 }
 
 /// Whether the call in flight has its place in the history.

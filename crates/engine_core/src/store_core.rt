@@ -1,11 +1,13 @@
 // A session that steps over the words of a device, one action or one decision at a time.
-ghost use Rattle.std.specs.Prelude.{◌≡◌, ◌≢◌, ◌+◌, ◌-◌, ◌^◌, ◌<◌, [], IfOk, IfErr, IsTrue, ◌↔◌};
+ghost use Rattle.mv_model.specs.History.{IsLegal};
+ghost use Rattle.engine_core.specs.LogicalState.{logical_state};
+ghost use Rattle.std.specs.Prelude.{false, ◌≡◌, ◌≢◌, ◌+◌, ◌-◌, ◌^◌, ◌<◌, [], IfOk, IfErr, IsTrue, ◌↔◌};
 ghost use Rattle.engine_core.specs.CoreState.{CoreState, ActsOnce, IsEvent, IsFormatted, Last, Nothing, Unplaced};
 ghost use Rattle.engine_core.specs.declared.flight.Step.TheVariants.{Decided, Played, Replied};
 ghost use Rattle.engine_core.specs.Served.{is_served};
 
 use crate::decision::decide;
-use crate::flight::{Flight, Step, actions_left, enter, is_placed, mark_answered, next_action, place_commit, put_flight, take_call, take_reply};
+use crate::flight::{Flight, Step, actions_left, enter, is_idle, is_placed, mark_answered, next_action, place_commit, put_flight, take_call, take_reply};
 use crate::transactions::Transactions;
 use mv_model::{Call, Entry, Reply};
 use pm_model::{Keep, Memory, NoMemory, Plan};
@@ -104,6 +106,49 @@ impl<M: Memory> Core<M> {
             self.decide();
             Step::Decided
         }
+    }
+
+    /// Whether a session has a call in flight.
+    pub fn in_flight(&self, session: u8) -> bool
+        requires { session ≡ 1 }
+        ensures { (result ≡ false) ↔ (self.now.in_flight ≡ Nothing) }
+    {
+        !is_idle(&self.flight)
+    }
+
+    /// The calls that have their place, in order, each with the reply that it was given or is to be given.
+    pub fn history(&self) -> &[Entry]
+        ensures entries { result.now ≡ self.now.history }
+        ensures legal { IsLegal (logical_state self.now.opened) self.now.history }
+    {
+        self.history.as_slice()
+    }
+
+    pub fn memory(&self) -> &M
+        ensures { result.now ≡ self.now.memory }
+    {
+        &self.memory
+    }
+
+    /// The words as they were when the core was opened.
+    pub fn opened(&self) -> &[u64]
+        ensures { result.now ≡ self.now.opened }
+    {
+        self.opened.as_slice()
+    }
+
+    /// How many actions were played since the core was opened.
+    pub fn played(&self) -> u64
+        ensures { result ≡ self.now.played }
+    {
+        self.played
+    }
+
+    /// How many calls were started since the core was opened.
+    pub fn started(&self) -> u32
+        ensures { result ≡ self.now.started }
+    {
+        self.started
     }
 
     // How many actions of the plan in play are left.
