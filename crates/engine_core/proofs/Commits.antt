@@ -61,7 +61,7 @@ commit_parts-five first count number =
     (unless_empty-last (entry_clears 0 count) (store (commit_word_at 0) 0))
 
 module _ (words : List ℕ) (begun number rows high last : ℕ) (stage : IsStage words (Some (record { number = number; rows = rows })))
-  (is_high : get_or words high_at 0 ≡ high) (is_last : get_or words last_at 0 ≡ last) (some : 0 < rows) (room : last < MAX_COMMITS) where
+    (is_high : get_or words high_at 0 ≡ high) (is_last : get_or words last_at 0 ≡ last) (some : 0 < rows) (room : last < MAX_COMMITS) where
   size : 32768 ≤ length words
   size = stage.size
 
@@ -229,13 +229,23 @@ module _ (words : List ℕ) (begun number rows high last : ℕ) (stage : IsStage
 
   commit-plan : IsPlan (length words) (five high rows (last + 1))
   commit-plan =
-      let s = size in let r = within in let f = few in
-      (run-part (last + 1) born_at 2048 born_is high_at (high + rows) (length words) high rows (omega (arith, s, r)) (omega (arith, s)) (λ k low above e. omega (arith, e)),
-      (one_store-part (length words) (commit_word_at 0) (last + 1) (omega (arith, s)),
-      (one_store-part (length words) last_at (last + 1) (omega (arith, s)),
-      (one_store-part (length words) (state_at 0) 0 (omega (arith, s)),
-      (subst (IsPart (length words)) (sym (clear_run rows))
-      (run-part 0 (λ nth. entry_at 0 nth) 1028 entry_is (commit_word_at 0) 0 (length words) 0 rows (omega (arith, s, f)) (omega (arith, s)) (λ k low above e. omega (arith, e))), tt)))))
+      let s = size in let r = within in let f = few in (
+        run-part (last + 1) born_at 2048 born_is high_at (high + rows) (length words) high rows (omega (arith, s, r)) (omega (arith, s)) (λ k low above e. omega (arith, e)),
+        (
+          one_store-part (length words) (commit_word_at 0) (last + 1) (omega (arith, s)),
+          (
+            one_store-part (length words) last_at (last + 1) (omega (arith, s)),
+            (
+              one_store-part (length words) (state_at 0) 0 (omega (arith, s)),
+              (
+                subst (IsPart (length words)) (sym (clear_run rows))
+                    (run-part 0 (λ nth. entry_at 0 nth) 1028 entry_is (commit_word_at 0) 0 (length words) 0 rows (omega (arith, s, f)) (omega (arith, s)) (λ k low above e. omega (arith, e))),
+                tt,
+              ),
+            ),
+          ),
+        ),
+      )
 
   pub commit-decided : (commit : ℕ) (actions : List Action) → commit ≡ last + 1 → actions ≡ plan_of (commit_parts high rows commit) → length actions ≤ 400
       → IsDecided words (record { begun = begun; running = Some (record { number = number; rows = rows }) }) call.Commit (reply.Committed commit) actions (record { begun = begun; running = None })

@@ -128,7 +128,7 @@ module _ (words : List ℕ) (begun : ℕ) (stage : IsStage words None) where
 -- ── insert ──
 
 module _ (words : List ℕ) (begun number rows : ℕ) (stage : IsStage words (Some (record { number = number; rows = rows }))) (row word : ℕ)
-  (is_row : row ≡ get_or words high_at 0 + rows) (few : rows < 60) (fewer : row < 4096) where
+    (is_row : row ≡ get_or words high_at 0 + rows) (few : rows < 60) (fewer : row < 4096) where
   with_entry : List ℕ
   with_entry = words_after (one_store (entry_at 0 rows) (entry_word (created_entry row))) words
 
@@ -213,8 +213,10 @@ module _ (words : List ℕ) (begun number rows : ℕ) (stage : IsStage words (So
       record {
         allowed = sym (insert-answer given commits begun number (get_or words last_at 0) created value (omega (arith, count, few)) (omega (arith, is_row, fewer)) ∙ ap reply.Row (sym is_row));
         parts = insert_parts rows row word;
-        plan = (one_store-part (length words) (entry_at 0 rows) (entry_word (created_entry row)) (let s = stage.size in omega (arith, s, few)),
-          (one_store-part (length words) (value_at row) word (let s = stage.size in omega (arith, s, fewer)), tt));
+        plan = (
+          one_store-part (length words) (entry_at 0 rows) (entry_word (created_entry row)) (let s = stage.size in omega (arith, s, few)),
+          (one_store-part (length words) (value_at row) word (let s = stage.size in omega (arith, s, fewer)), tt),
+        );
         plan_is = is_actions;
         state =
             insert-next given commits begun number (get_or words last_at 0) created value row
@@ -229,7 +231,6 @@ module _ (words : List ℕ) (begun number rows : ℕ) (stage : IsStage words (So
         short = short;
         begun = omega arith;
       }
-
 
 -- an insert for which the table has no row, or the object no entry
 pub insert-full : (words : List ℕ) (begun number rows : ℕ) (value : ℤ) → IsStage words (Some (record { number = number; rows = rows }))

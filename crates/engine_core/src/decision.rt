@@ -36,7 +36,12 @@ pub(crate) struct Decision {
 }
 
 /// Decides a call of session 1. Where memory is wanted and not there, the reply is that, and nothing changes.
-pub(crate) fn decide<M: Memory>(alloc: Global, memory: &M, now: Transactions, said: &Call) -> Decision
+pub(crate) fn decide<M: Memory>(
+    alloc: Global,
+    memory: &M,
+    now: Transactions,
+    said: &Call,
+) -> Decision
     requires stage { IsStage (M.device memory.now).cached now.running }
     requires served { IsTrue (is_served said.now) }
     requires begun { now.begun < 2 ^ 64 - 1 }
@@ -54,7 +59,12 @@ pub(crate) fn decide<M: Memory>(alloc: Global, memory: &M, now: Transactions, sa
     }
 }
 
-fn settle<M: Memory>(alloc: Global, memory: &M, now: Transactions, said: &Call) -> Result<Decision, NoMemory>
+fn settle<M: Memory>(
+    alloc: Global,
+    memory: &M,
+    now: Transactions,
+    said: &Call,
+) -> Result<Decision, NoMemory>
     requires stage { IsStage (M.device memory.now).cached now.running }
     requires served { IsTrue (is_served said.now) }
     requires begun { now.begun < 2 ^ 64 - 1 }
@@ -67,7 +77,12 @@ fn settle<M: Memory>(alloc: Global, memory: &M, now: Transactions, said: &Call) 
 }
 
 // Decides a call while no transaction is open.
-fn settle_outside<M: Memory>(alloc: Global, memory: &M, begun: u64, said: &Call) -> Result<Decision, NoMemory>
+fn settle_outside<M: Memory>(
+    alloc: Global,
+    memory: &M,
+    begun: u64,
+    said: &Call,
+) -> Result<Decision, NoMemory>
     requires stage { IsStage (M.device memory.now).cached None }
     requires served { IsTrue (is_served said.now) }
     requires begun { begun < 2 ^ 64 - 1 }
@@ -75,18 +90,36 @@ fn settle_outside<M: Memory>(alloc: Global, memory: &M, begun: u64, said: &Call)
 {
     match said {
         Call::Begin => begin(alloc, memory, begun),
-        _ => refuse(Reply::NoTxn, Transactions { begun, running: None }),
+        _ => refuse(
+            Reply::NoTxn,
+            Transactions {
+                begun,
+                running: None,
+            },
+        ),
     }
 }
 
 // Decides a call while a transaction is open.
-fn settle_inside<M: Memory>(alloc: Global, memory: &M, begun: u64, own: Running, said: &Call) -> Result<Decision, NoMemory>
+fn settle_inside<M: Memory>(
+    alloc: Global,
+    memory: &M,
+    begun: u64,
+    own: Running,
+    said: &Call,
+) -> Result<Decision, NoMemory>
     requires stage { IsStage (M.device memory.now).cached (Some own) }
     requires served { IsTrue (is_served said.now) }
     ensures { IfOk result (λ decision. IsDecision (M.device memory.now).cached (record { begun = begun; running = Some own }) said.now decision) }
 {
     match said {
-        Call::Begin => refuse(Reply::AlreadyOpen, Transactions { begun, running: Some(own) }),
+        Call::Begin => refuse(
+            Reply::AlreadyOpen,
+            Transactions {
+                begun,
+                running: Some(own),
+            },
+        ),
         Call::Commit => commit(alloc, memory, begun, own),
         Call::Get { row, .. } => get(alloc, memory, begun, own, *row),
         Call::Insert { values, .. } => match values.get(0) {
@@ -132,13 +165,28 @@ fn begin<M: Memory>(alloc: Global, memory: &M, begun: u64) -> Result<Decision, N
     })
 }
 
-fn insert<M: Memory>(alloc: Global, memory: &M, begun: u64, own: Running, number: i64) -> Result<Decision, NoMemory>
+fn insert<M: Memory>(
+    alloc: Global,
+    memory: &M,
+    begun: u64,
+    own: Running,
+    number: i64,
+) -> Result<Decision, NoMemory>
     requires { IsStage (M.device memory.now).cached (Some own) }
     ensures { IfOk result (λ decision. IsDecision (M.device memory.now).cached (record { begun = begun; running = Some own }) (insert_of number) decision) }
 {
     let row = memory.load(high()) as u32 + own.rows;
     if own.rows >= u32::from(OBJECT_ENTRIES) || row >= STAGE_ROWS {
-        return refuse(Reply::Full { need: 1, largest: 0 }, Transactions { begun, running: Some(own) });
+        return refuse(
+            Reply::Full {
+                need: 1,
+                largest: 0,
+            },
+            Transactions {
+                begun,
+                running: Some(own),
+            },
+        );
     }
     let reply = Reply::Row { row };
     Ok(Decision {
@@ -156,11 +204,20 @@ fn insert<M: Memory>(alloc: Global, memory: &M, begun: u64, own: Running, number
     })
 }
 
-fn get<M: Memory>(alloc: Global, memory: &M, begun: u64, own: Running, row: u32) -> Result<Decision, NoMemory>
+fn get<M: Memory>(
+    alloc: Global,
+    memory: &M,
+    begun: u64,
+    own: Running,
+    row: u32,
+) -> Result<Decision, NoMemory>
     requires { IsStage (M.device memory.now).cached (Some own) }
     ensures { IfOk result (λ decision. IsDecision (M.device memory.now).cached (record { begun = begun; running = Some own }) (get_of row) decision) }
 {
-    let now = Transactions { begun, running: Some(own) };
+    let now = Transactions {
+        begun,
+        running: Some(own),
+    };
     if row >= STAGE_ROWS || !is_seen(memory, own.rows, row) {
         return refuse(Reply::NoRow, now);
     }
@@ -197,7 +254,12 @@ fn is_commit(stamp: u64, last: u64) -> bool
     1 <= stamp && stamp <= last
 }
 
-fn commit<M: Memory>(alloc: Global, memory: &M, begun: u64, own: Running) -> Result<Decision, NoMemory>
+fn commit<M: Memory>(
+    alloc: Global,
+    memory: &M,
+    begun: u64,
+    own: Running,
+) -> Result<Decision, NoMemory>
     requires { IsStage (M.device memory.now).cached (Some own) }
     ensures { IfOk result (λ decision. IsDecision (M.device memory.now).cached (record { begun = begun; running = Some own }) call.Commit decision) }
 {
@@ -206,7 +268,13 @@ fn commit<M: Memory>(alloc: Global, memory: &M, begun: u64, own: Running) -> Res
     }
     let last = memory.load(last_commit());
     if last >= MAX_COMMITS {
-        return refuse(Reply::Spent, Transactions { begun, running: Some(own) });
+        return refuse(
+            Reply::Spent,
+            Transactions {
+                begun,
+                running: Some(own),
+            },
+        );
     }
     let first = memory.load(high()) as u32;
     let made = plan_commit(alloc, first, own.rows, last + 1)?;
@@ -215,7 +283,10 @@ fn commit<M: Memory>(alloc: Global, memory: &M, begun: u64, own: Running) -> Res
         copy: reply.copy()?,
         reply,
         plan: Some(made.plan),
-        after: Transactions { begun, running: None },
+        after: Transactions {
+            begun,
+            running: None,
+        },
         late: Some(Late {
             number: last + 1,
             left: made.late,
@@ -232,7 +303,10 @@ fn close(alloc: Global, begun: u64) -> Result<Decision, NoMemory>
         copy: reply.copy()?,
         reply,
         plan: Some(plan_close(alloc)?),
-        after: Transactions { begun, running: None },
+        after: Transactions {
+            begun,
+            running: None,
+        },
         late: None,
     })
 }

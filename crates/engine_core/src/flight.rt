@@ -92,7 +92,13 @@ pub(crate) fn place_commit(flight: &mut Flight, history: &mut Vec<Entry>, left: 
 }
 
 /// Puts a call that is decided into the history, unless it is a commit that waits for its place.
-pub(crate) fn enter(history: &mut Vec<Entry>, said: Call, reply: Reply, copy: Reply, late: Option<Late>) -> Flight
+pub(crate) fn enter(
+    history: &mut Vec<Entry>,
+    said: Call,
+    reply: Reply,
+    copy: Reply,
+    late: Option<Late>,
+) -> Flight
     requires room { vec_len history.old < vec_capacity history.old }
     requires small { vec_len history.old < 2 ^ 32 - 1 }
     ensures entered { IsEntered late said reply copy history.old.items history.new.items result }

@@ -62,7 +62,12 @@ pub(crate) fn plan_close(alloc: Global) -> Result<Plan, NoMemory>
 
 /// A plan that makes the transaction that created `count` rows from `first` on the commit of this number. It is decided
 /// once its commit word is durable.
-pub(crate) fn plan_commit(alloc: Global, first: u32, count: u32, number: u64) -> Result<CommitPlan, NoMemory>
+pub(crate) fn plan_commit(
+    alloc: Global,
+    first: u32,
+    count: u32,
+    number: u64,
+) -> Result<CommitPlan, NoMemory>
     requires count { count ≤ 60 }
     requires in_table { first + count ≤ 4096 }
     ensures left { IfOk result (λ made. made.plan.left ≡ plan_of (commit_parts first count number)) }

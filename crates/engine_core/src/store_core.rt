@@ -7,7 +7,10 @@ ghost use Rattle.engine_core.specs.declared.flight.Step.TheVariants.{Decided, Pl
 ghost use Rattle.engine_core.specs.Served.{is_served};
 
 use crate::decision::decide;
-use crate::flight::{Flight, Step, actions_left, enter, is_idle, is_placed, mark_answered, next_action, place_commit, put_flight, take_call, take_reply};
+use crate::flight::{
+    Flight, Step, actions_left, enter, is_idle, is_placed, mark_answered, next_action,
+    place_commit, put_flight, take_call, take_reply,
+};
 use crate::transactions::Transactions;
 use mv_model::{Call, Entry, Reply};
 use pm_model::{Keep, Memory, NoMemory, Plan};
@@ -172,9 +175,15 @@ impl<M: Memory> Core<M> {
         ensures device { ActsOnce Played 1 (M.device self.old.memory) (M.device self.new.memory) }
         ensures event { IsEvent Played self.old self.new }
     {
-        let Some(action) = next_action(&mut self.plan) else { unreachable!() };
+        let Some(action) = next_action(&mut self.plan) else {
+            unreachable!()
+        };
         self.memory.act(session, action);
-        place_commit(&mut self.flight, &mut self.history, actions_left(&self.plan));
+        place_commit(
+            &mut self.flight,
+            &mut self.history,
+            actions_left(&self.plan),
+        );
         self.events_left -= 1;
         self.played += 1;
     }
@@ -188,10 +197,21 @@ impl<M: Memory> Core<M> {
         ensures event { IsEvent Decided self.old self.new }
     {
         let said = take_call(&mut self.flight);
-        let decision = decide(*self.history.allocator(), &self.memory, self.transactions, &said);
+        let decision = decide(
+            *self.history.allocator(),
+            &self.memory,
+            self.transactions,
+            &said,
+        );
         self.transactions = decision.after;
         self.plan = decision.plan;
-        let entered = enter(&mut self.history, said, decision.reply, decision.copy, decision.late);
+        let entered = enter(
+            &mut self.history,
+            said,
+            decision.reply,
+            decision.copy,
+            decision.late,
+        );
         put_flight(&mut self.flight, entered);
         self.events_left -= 1;
     }

@@ -21,7 +21,7 @@ pub returns-then-row-ge-STAGE_ROWS : goal.returns-then-row-ge-STAGE_ROWS
 returns-then-row-ge-STAGE_ROWS g c =
     let words = (g.M.Memory.device c.args.memory.now).cached in
     let unseen : is_seen words c.args.own.rows c.args.row ≡ false = elim c.then-row-ge-STAGE_ROWS.branch [
-      then-row-ge-STAGE_ROWS-via-then-row-ge-STAGE_ROWS w ↦ unseen-past words c.args.own c.args.row c.requires w.if-row-ge-STAGE_ROWS.true
+      | then-row-ge-STAGE_ROWS-via-then-row-ge-STAGE_ROWS w ↦ unseen-past words c.args.own c.args.row c.requires w.if-row-ge-STAGE_ROWS.true
       | then-row-ge-STAGE_ROWS-via-else-row-ge-STAGE_ROWS+then-not-is_seen w ↦ sym w.is_seen.ensures ∙ w.if-not-is_seen.true
     ] in
     stands words _ (get_of c.args.row) reply.NoRow c.refuse.result c.refuse.ensures (get-unseen words c.args.begun c.args.own.number c.args.own.rows c.args.row c.requires unseen) tt

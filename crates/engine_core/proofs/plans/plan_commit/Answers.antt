@@ -16,8 +16,16 @@ push_retire-requires-clause-room c =
 
 pub returns-clause-actions : goal.returns-clause-actions
 returns-clause-actions c =
-    omega (arith, c.requires.count, c.push_stamps.ensures.most, ap length c.push_store.ensures.left, ap length c.push_store-2.ensures.left, ap length c.push_retire.ensures.left,
-    length-append {A = Action}, length-plan_of-retire 0 c.args.count true)
+    omega (
+      arith,
+      c.requires.count,
+      c.push_stamps.ensures.most,
+      ap length c.push_store.ensures.left,
+      ap length c.push_store-2.ensures.left,
+      ap length c.push_retire.ensures.left,
+      length-append {A = Action},
+      length-plan_of-retire 0 c.args.count true,
+    )
 
 pub returns-clause-later : goal.returns-clause-later
 returns-clause-later c =
