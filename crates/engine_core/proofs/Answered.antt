@@ -1,0 +1,91 @@
+-- Decisions as the functions that make them give them.
+use Rattle.std.proofs.Common.{◌≡◌, ◌⊎◌, inl, inr, ⊎_elim, ℕ, ℤ, ◌+◌, ◌<◌, ◌≤◌, ◌∙◌, Bool, true, false, not, ◌&&◌, ◌||◌, List, [], ◌∷◌, length, get_or, Option, None, Some, refl, ap, sym, subst, arith}
+use Rattle.std.specs.Prelude.{Result, Ok, Err, IfOk, IsTrue}
+use Rattle.std.proofs.lemmas.Bool.{false≢true, and_right, or_from, le-ltb}
+use Rattle.mv_model.specs.declared.value.Value.TheVariants.{Int}
+use Rattle.mv_model.specs.declared.call.Call.{Call}
+use Rattle.mv_model.specs.declared.call.Call.TheVariants as call
+use Rattle.mv_model.specs.declared.reply.Reply.{Reply}
+use Rattle.mv_model.specs.declared.reply.Reply.TheVariants as reply
+use Rattle.mv_model.specs.declared.limits.TheConstants.{MAX_COMMITS}
+use Rattle.mv_model.specs.State.{State}
+use Rattle.mv_model.specs.History.{IsAllowed}
+use Rattle.mv_model.proofs.Unchanged.{refusals_change_nothing_lem}
+use Rattle.pm_model.specs.Fixed.{last_at}
+use Rattle.engine_core.specs.Stage.{high_at, value_at}
+use Rattle.engine_core.specs.StageRules.{IsStage}
+use Rattle.engine_core.specs.Served.{get_of, insert_of, is_served}
+use Rattle.engine_core.specs.Decided.{IsDecided, IsDecision, IsClosed, IsPlacedLate, left_of}
+use Rattle.engine_core.specs.LogicalState.{commits_in, integer_of, is_seen, rows_from, state_of, within}
+use Rattle.engine_core.specs.declared.decision.Decision.{Decision}
+use Rattle.engine_core.specs.declared.transactions.Transactions.{Transactions}
+use Rattle.engine_core.specs.declared.transactions.Running.{Running}
+use Rattle.engine_core.proofs.Rows.{length-commits_in, length-rows_from}
+use Rattle.engine_core.proofs.States.{commit-spent}
+use Rattle.engine_core.proofs.Decisions.{refused, insert-full}
+use Rattle.engine_core.proofs.Commits.{close-decided}
+use Rattle.engine_core.proofs.Readings.{get-seen, get-unseen}
+
+-- a reply that leaves all as it is
+abbrev pub standing : Reply → Transactions → Decision
+standing given now = record { reply = given; copy = given; plan = None; after = now; late = None }
+
+pub stands : {E : Type 0} (words : List ℕ) (now : Transactions) (said : Call) (given : Reply) (made : Result Decision E) → IfOk made (λ decision. decision ≡ standing given now)
+    → IsDecided words now said given [] now → IsPlacedLate None said given [] → IfOk made (λ decision. IsDecision words now said decision)
+stands words now said given (Ok decision) is decided late =
+    subst (λ (d : Decision). IsDecision words now said d) (sym is) (record { copied = refl; decided = decided; late = late })
+stands words now said given (Err error) is decided late = tt
+
+-- no transaction is open
+pub no_txn : (words : List ℕ) (begun : ℕ) (said : Call) → IsStage words None → IsTrue (is_served said) → (said ≡ call.Begin → ⊥) → IsDecided words (record { begun = begun; running = None }) said reply.NoTxn [] (record { begun = begun; running = None })
+no_txn words begun said stage served other =
+    refused words (record { begun = begun; running = None }) said reply.NoTxn stage (allowed said served other)
+    (refusals_change_nothing_lem (state_of words (record { begun = begun; running = None })) 1 said reply.NoTxn refl) tt
+  where
+    allowed : (said : Call) → IsTrue (is_served said) → (said ≡ call.Begin → ⊥) → IsAllowed (state_of words (record { begun = begun; running = None })) 1 said reply.NoTxn
+    allowed call.Begin served other = absurd (other refl)
+    allowed call.Commit served other = refl
+    allowed (call.Get table row) served other = refl
+    allowed (call.Insert table values) served other = refl
+    allowed (call.Create table shape) served other = absurd (false≢true served)
+    allowed (call.Defrag pages) served other = absurd (false≢true served)
+    allowed (call.Update table row values) served other = refl
+    allowed (call.Delete table row) served other = refl
+    allowed (call.Scan table pred) served other = refl
+    allowed (call.Count table pred) served other = refl
+    allowed (call.Sum table column pred) served other = refl
+    allowed call.Abort served other = refl
+
+-- a transaction is open already
+pub already : (words : List ℕ) (begun : ℕ) (own : Running) (said : Call) → IsStage words (Some own) → said ≡ call.Begin → IsDecided words (record { begun = begun; running = Some own }) said reply.AlreadyOpen [] (record { begun = begun; running = Some own })
+already words begun own said stage is =
+    subst (λ (one : Call). IsDecided words (record { begun = begun; running = Some own }) one reply.AlreadyOpen [] (record { begun = begun; running = Some own })) (sym is)
+    (refused words (record { begun = begun; running = Some own }) call.Begin reply.AlreadyOpen stage refl refl tt)
+
+-- a row past the table's is not seen
+pub unseen-past : (words : List ℕ) (own : Running) (row : ℕ) → IsStage words (Some own) → 4096 ≤ row → is_seen words own.rows row ≡ false
+unseen-past words own row stage past =
+    let room = stage.room in
+    let is_row : within 0 4096 row ≡ false = and_right _ _ (le-ltb row 4096 past) in
+    let is_own : within (get_or words high_at 0) own.rows row ≡ false = and_right _ _ (le-ltb row (get_or words high_at 0 + own.rows) (omega (arith, room, past))) in
+    and_right _ _ (or_from _ _ (and_right _ _ is_row) is_own)
+
+-- all commit numbers are used
+pub spent : (words : List ℕ) (begun : ℕ) (own : Running) → IsStage words (Some own) → 0 < own.rows → MAX_COMMITS ≤ get_or words last_at 0
+    → IsDecided words (record { begun = begun; running = Some own }) call.Commit reply.Spent [] (record { begun = begun; running = Some own })
+spent words begun own stage some many =
+    let count = length-rows_from words (get_or words high_at 0) own.rows in
+    let commits = length-commits_in words (get_or words last_at 0) in
+    refused words (record { begun = begun; running = Some own }) call.Commit reply.Spent stage
+    (sym (commit-spent (get_or words high_at 0 + own.rows) (commits_in words (get_or words last_at 0)) begun own.number (get_or words last_at 0) (rows_from words (get_or words high_at 0) own.rows)
+    (omega (arith, count, some)) (omega (arith, commits, many)))) refl tt
+
+-- the end of a transaction that wrote nothing
+pub closes : {E : Type 0} (words : List ℕ) (begun : ℕ) (own : Running) (made : Result Decision E) → IsStage words (Some own) → own.rows ≡ 0 → IfOk made (λ decision. IsClosed begun decision)
+    → IfOk made (λ decision. IsDecision words (record { begun = begun; running = Some own }) call.Commit decision)
+closes words begun own (Err error) stage none closed = tt
+closes words begun own (Ok decision) stage none closed = record {
+  copied = closed.copied;
+  decided = rw (closed.reply, closed.after) (close-decided words begun own.number own.rows stage (left_of decision.plan) none closed.plan (omega (arith, closed.actions)));
+  late = rw (closed.reply, closed.late) tt;
+}

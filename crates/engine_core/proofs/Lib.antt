@@ -1,0 +1,14 @@
+pub mod Rows
+pub mod StageImage
+pub mod States
+pub mod Stores
+pub mod Decisions
+pub mod Commits
+pub mod Readings
+pub mod StampPlans
+pub mod Answered
+pub mod Histories
+pub mod Steps
+pub mod CoreSteps
+pub mod Movements
+pub mod FreshCore

@@ -1,0 +1,304 @@
+-- Each event keeps what a core keeps.
+use Rattle.std.proofs.Common.{◌≡◌, ◌≢◌, ◌⊎◌, inl, inr, ⊎_elim, ℕ, zero, suc, ◌+◌, ◌*◌, ◌<◌, ◌≤◌, ◌∙◌, Bool, true, false, List, [], ◌∷◌, ◌++◌, length, get_or, Option, None, Some, refl, ap, sym, subst, append-nil, arith}
+use Rattle.std.specs.Prelude.{IsTrue, All}
+use Rattle.std.proofs.lemmas.Bool.{cases_Bool, cond-true, cond-false}
+use Rattle.std.proofs.lemmas.List.{length-append}
+use Rattle.std.proofs.lemmas.List.Elements.{All-append, All-cons, All-nil}
+use Rattle.mv_model.specs.declared.call.Call.{Call}
+use Rattle.mv_model.specs.declared.call.Call.TheVariants as call
+use Rattle.mv_model.specs.declared.reply.Reply.{Reply}
+use Rattle.mv_model.specs.declared.reply.Reply.TheVariants as reply
+use Rattle.mv_model.specs.declared.reply.Entry.{Entry}
+use Rattle.mv_model.specs.State.{State}
+use Rattle.mv_model.specs.History.{IsAllowed, IsLegal, state_after}
+use Rattle.mv_model.specs.Next.{next}
+use Rattle.pm_model.specs.declared.action.Action.{Action}
+use Rattle.pm_model.specs.declared.action.Action.TheVariants.{Store, Flush, Fence, Punch}
+use Rattle.pm_model.specs.Device.{Device, acted, CanAct, IsClean, cached_after, choose_by, writes}
+use Rattle.pm_model.specs.Plans.{Play, Part, IsPlayable, IsPlaying, IsPlan, MayBegin, HasEnded, words_after, plan_of, footprint, at_rest}
+use Rattle.pm_model.proofs.Words.{cached_after-kept, get_or-choose_by}
+use Rattle.pm_model.proofs.Alone.{length-words_after, IsPlan-size}
+use Rattle.pm_model.proofs.PlanLaw.{plan_begins, plan_can_act, plan_goes_on, plan_owns, plan_ends}
+use Rattle.engine_core.specs.StageRules.{IsStage}
+use Rattle.engine_core.specs.Decided.{IsDecided, IsPlacedLate}
+use Rattle.engine_core.specs.LogicalState.{logical_state, state_of}
+use Rattle.engine_core.specs.CoreState.{EndsUnanswered, IsAnswered, IsEntered, IsOfOne, IsPlacedAt, answered, due, pending, unanswered}
+use Rattle.engine_core.specs.Kept.{IsBounded, IsKept, IsUnderWay}
+use Rattle.engine_core.specs.Served.{is_served}
+use Rattle.engine_core.specs.declared.decision.Late.{Late}
+use Rattle.engine_core.specs.declared.flight.Flight.{Flight}
+use Rattle.engine_core.specs.declared.flight.Flight.TheVariants as flight
+use Rattle.engine_core.specs.declared.transactions.Transactions.{Transactions}
+use Rattle.engine_core.proofs.Histories.{legal-answered, legal-more, of_one-answered, of_one-more, state_after-answered, state_after-more}
+
+-- ── one action ──
+
+pub under_way-can : (d : Device) (left rest : List Action) (action : Action) → left ≡ action ∷ rest → IsUnderWay left d → CanAct action d
+under_way-can d left rest action is way =
+    plan_can_act way.play way.played d action rest (subst (λ (l : List Action). IsPlaying way.play way.played l d) is way.playing)
+
+-- a clean word that an action doesn't write stays clean
+clean_kept : (session : ℕ) (action : Action) (d : Device) (w : ℕ) → length d.cached ≡ length d.durable → writes action w ≡ false → IsClean d w → IsClean (acted session action d) w
+clean_kept session (Store place value) d w same miss clean = cached_after-kept (Store place value) d.cached w miss ∙ clean
+clean_kept session (Flush line) d w same miss clean = clean
+clean_kept session (Punch page) d w same miss clean = cached_after-kept (Punch page) d.cached w miss ∙ clean
+clean_kept session Fence d w same miss clean =
+    let word = get_or-choose_by (d.flushed session) d.cached d.durable same w in
+    ⊎_elim (λ (hit : d.flushed session w ≡ true). sym (word ∙ cond-true (d.flushed session w) (get_or d.cached w 0) (get_or d.durable w 0) hit))
+    (λ (out : d.flushed session w ≡ false). clean ∙ sym (word ∙ cond-false (d.flushed session w) (get_or d.cached w 0) (get_or d.durable w 0) out))
+    (cases_Bool (d.flushed session w))
+
+pub under_way-plays : (d after : Device) (left rest : List Action) (action : Action) → left ≡ action ∷ rest → after ≡ acted 1 action d → IsUnderWay left d → IsUnderWay rest after
+under_way-plays d after left rest action is acts way =
+    let playing = subst (λ (l : List Action). IsPlaying way.play way.played l d) is way.playing in
+    let own : after ≡ acted way.play.session action d = subst (λ (s : ℕ). after ≡ acted s action d) (sym way.session) acts in
+    record {
+      play = way.play;
+      played = way.played + 1;
+      session = way.session;
+      playing = subst (λ (x : Device). IsPlaying way.play (way.played + 1) rest x) (sym own) (plan_goes_on way.play way.played d action rest playing);
+      rest = λ w apart. subst (λ (x : Device). IsClean x w) (sym acts)
+          (clean_kept 1 action d w (way.playing.looks.cached_size ∙ sym way.playing.looks.durable_size)
+          (⊎_elim (λ (hit : writes action w ≡ true). absurd (both (way.play.own w) apart (plan_owns way.play way.played d action rest playing w hit))) (λ miss. miss) (cases_Bool (writes action w)))
+          (way.rest w apart));
+    }
+  where
+    both : (b : Bool) → b ≡ false → b ≡ true → ⊥
+    both b no_ yes_ = cc
+
+pub words-played : (d after : Device) (left rest : List Action) (action : Action) → left ≡ action ∷ rest → after ≡ acted 1 action d → words_after rest after.cached ≡ words_after left d.cached
+words-played d after left rest action is acts =
+    ap (λ (x : Device). words_after rest x.cached) acts ∙ ap (λ (l : List Action). words_after l d.cached) (sym is)
+
+-- ── a new plan ──
+
+-- with nothing left, each word is clean
+pub all-clean : (d : Device) (left : List Action) → left ≡ [] → IsUnderWay left d → (w : ℕ) → IsClean d w
+all-clean d left is way w = ⊎_elim
+    (λ own. (plan_ends way.play way.played d (subst (λ (l : List Action). IsPlaying way.play way.played l d) is way.playing)).clean w own)
+    (λ apart. way.rest w apart) (cases_Bool (way.play.own w))
+
+pub under_way-begins : (d : Device) (before : List Action) (parts : List Part) → before ≡ [] → IsUnderWay before d → IsPlan (length d.cached) parts → IsUnderWay (plan_of parts) d
+under_way-begins d before parts is way plan =
+    let clean = all-clean d before is way in
+    let play : Play = record { own = footprint (plan_of parts); session = 1; parts = parts; start = d.cached } in
+    record {
+      play = record { own = footprint (plan_of parts); session = 1; parts = parts; start = d.cached };
+      played = 0;
+      session = refl;
+      playing = plan_begins play d (record { plan = plan; within = λ w hit. hit })
+          (record { cached_size = refl; durable_size = way.playing.looks.durable_size ∙ sym way.playing.looks.cached_size; same = λ w own. refl; clean = λ w own. clean w });
+      rest = λ w apart. clean w;
+    }
+
+-- a device at rest
+pub under_way-rests : (words : List ℕ) → IsUnderWay [] (at_rest words)
+under_way-rests words =
+    let play : Play = record { own = λ w. false; session = 1; parts = []; start = words } in
+    record {
+      play = record { own = λ w. false; session = 1; parts = []; start = words };
+      played = 0;
+      session = refl;
+      playing = plan_begins play (at_rest words) (record { plan = tt; within = λ w hit. hit })
+          (record { cached_size = refl; durable_size = refl; same = λ w own. refl; clean = λ w own. refl });
+      rest = λ w apart. refl;
+    }
+
+-- ── the core's steps ──
+
+module _ (opened : List ℕ) where
+  -- nothing but the events that are left changes for a call that has its place
+  plays_placed : (d after : Device) (history : List Entry) (now : Transactions) (left rest : List Action) (action : Action) (given : Reply) (events fewer played started : ℕ)
+      → left ≡ action ∷ rest → after ≡ acted 1 action d → events ≡ fewer + 1
+      → IsKept d opened history now left (flight.Placed given) events played started → IsKept after opened history now rest (flight.Placed given) fewer (played + 1) started
+  plays_placed d after history now left rest action given events fewer played started is acts one kept =
+      let words = words-played d after left rest action is acts in
+      record {
+        legal = kept.legal;
+        legal_due = kept.legal_due;
+        represents = kept.represents ∙ ap (λ (ws : List ℕ). state_of ws now) (sym words);
+        stage = rw words kept.stage;
+        under_way = under_way-plays d after left rest action is acts kept.under_way;
+        answers = kept.answers;
+        alone = kept.alone;
+        count = kept.count;
+        begun = kept.begun;
+        bounded = let below = kept.bounded in let size = ap length is in omega (arith, below, size, one);
+        actions = let a = kept.actions in omega (arith, a, one);
+      }
+
+  plays_early : (d after : Device) (history : List Entry) (now : Transactions) (left rest : List Action) (action : Action) (number late events fewer played started : ℕ)
+      → left ≡ action ∷ rest → after ≡ acted 1 action d → events ≡ fewer + 1 → late ≢ length rest
+      → IsKept d opened history now left (flight.Committing number late) events played started → IsKept after opened history now rest (flight.Committing number late) fewer (played + 1) started
+  plays_early d after history now left rest action number late events fewer played started is acts one apart kept =
+      let words = words-played d after left rest action is acts in
+      record {
+        legal = kept.legal;
+        legal_due = kept.legal_due;
+        represents = kept.represents ∙ ap (λ (ws : List ℕ). state_of ws now) (sym words);
+        stage = rw words kept.stage;
+        under_way = under_way-plays d after left rest action is acts kept.under_way;
+        answers = kept.answers;
+        alone = kept.alone;
+        count = kept.count;
+        begun = kept.begun;
+        bounded = let below = kept.bounded in let size = ap length is in (omega (arith, below.0, size, apart), omega (arith, below.1, size, one));
+        actions = let a = kept.actions in omega (arith, a, one);
+      }
+
+  -- a commit gets its place
+  plays_commit : (d after : Device) (history : List Entry) (now : Transactions) (left rest : List Action) (action : Action) (number late events fewer played started : ℕ)
+      → left ≡ action ∷ rest → after ≡ acted 1 action d → events ≡ fewer + 1
+      → IsKept d opened history now left (flight.Committing number late) events played started
+      → IsKept after opened (history ++ unanswered (length history + 1) call.Commit (reply.Committed number) ∷ []) now rest (flight.Placed (reply.Committed number)) fewer (played + 1) started
+  plays_commit d after history now left rest action number late events fewer played started is acts one kept =
+      let words = words-played d after left rest action is acts in
+      let entry = unanswered (length history + 1) call.Commit (reply.Committed number) in
+      let none = append-nil (history ++ entry ∷ []) in
+      let size_more = length-append history (entry ∷ []) in
+      record {
+        legal = kept.legal_due;
+        legal_due = subst (λ (h : List Entry). IsLegal (logical_state opened) h) (sym none) kept.legal_due;
+        represents = ap (state_after (logical_state opened)) none ∙ kept.represents ∙ ap (λ (ws : List ℕ). state_of ws now) (sym words);
+        stage = rw words kept.stage;
+        under_way = under_way-plays d after left rest action is acts kept.under_way;
+        answers = record { front = history; last = entry; is = refl; given_before = kept.answers; open_still = refl; reply = refl };
+        alone = of_one-more history entry kept.alone refl;
+        count = let c = kept.count in omega (arith, c, size_more);
+        begun = subst (λ (h : List Entry). now.begun ≤ length h) (sym none) kept.begun;
+        bounded = let below = kept.bounded in let size = ap length is in omega (arith, below.1, size, one);
+        actions = let a = kept.actions in omega (arith, a, one);
+      }
+
+  -- an action
+  pub plays : (d after : Device) (history new : List Entry) (now : Transactions) (left rest : List Action) (action : Action) (before placed : Flight) (events fewer played started : ℕ)
+      → left ≡ action ∷ rest → after ≡ acted 1 action d → events ≡ fewer + 1 → IsPlacedAt (length rest) before placed history new
+      → IsKept d opened history now left before events played started → IsKept after opened new now rest placed fewer (played + 1) started
+  plays d after history new now left rest action flight.Idle placed events fewer played started is acts one places kept =
+      let none : left ≡ [] = kept.bounded in absurd (empty (sym none ∙ is))
+    where
+      empty : [] ≡ action ∷ rest → ⊥
+      empty e = cc
+  plays d after history new now left rest action (flight.Waiting said) placed events fewer played started is acts one places kept =
+      let none : left ≡ [] = kept.bounded.0 in absurd (empty (sym none ∙ is))
+    where
+      empty : [] ≡ action ∷ rest → ⊥
+      empty e = cc
+  plays d after history new now left rest action (flight.Committing number late) placed events fewer played started is acts one (inl places) kept =
+      rw (places.1, places.2) (plays_commit d after history now left rest action number late events fewer played started is acts one kept)
+  plays d after history new now left rest action (flight.Committing number late) placed events fewer played started is acts one (inr places) kept =
+      rw (places.1, places.2) (plays_early d after history now left rest action number late events fewer played started is acts one places.0 kept)
+  plays d after history new now left rest action (flight.Placed given) placed events fewer played started is acts one places kept =
+      rw (places.0, places.1) (plays_placed d after history now left rest action given events fewer played started is acts one kept)
+
+  -- the state before a decision
+  pub state_now : (d : Device) (history : List Entry) (now : Transactions) (said : Call) (events played started : ℕ) → IsKept d opened history now [] (flight.Waiting said) events played started
+      → state_after (logical_state opened) history ≡ state_of d.cached now
+  state_now d history now said events played started kept = ap (state_after (logical_state opened)) (sym (append-nil history)) ∙ kept.represents
+
+  decides_now : (d : Device) (history : List Entry) (now next_now : Transactions) (said : Call) (given copy : Reply) (actions : List Action) (events fewer played started : ℕ)
+      → events ≡ fewer + 1 → copy ≡ given → IsDecided d.cached now said given actions next_now
+      → IsKept d opened history now [] (flight.Waiting said) events played started
+      → IsKept d opened (history ++ unanswered (length history + 1) said given ∷ []) next_now actions (flight.Placed copy) fewer played started
+  decides_now d history now next_now said given copy actions events fewer played started one copied decided kept =
+      let entry = unanswered (length history + 1) said given in
+      let none = append-nil (history ++ entry ∷ []) in
+      let before = state_now d history now said events played started kept in
+      let legal = legal-more (logical_state opened) history entry kept.legal kept.alone refl refl (subst (λ (s : State). IsAllowed s 1 said given) (sym before) decided.allowed) in
+      let size_more = length-append history (entry ∷ []) in
+      let short = decided.short in
+      record {
+        legal = legal;
+        legal_due = subst (λ (h : List Entry). IsLegal (logical_state opened) h) (sym none) legal;
+        represents = ap (state_after (logical_state opened)) none ∙ state_after-more (logical_state opened) history entry ∙ ap (λ (s : State). next s 1 said given) before ∙ decided.state;
+        stage = decided.stage;
+        under_way = subst (λ (l : List Action). IsUnderWay l d) (sym decided.plan_is) (under_way-begins d [] decided.parts refl kept.under_way decided.plan);
+        answers = record { front = history; last = entry; is = refl; given_before = kept.answers; open_still = refl; reply = sym copied };
+        alone = of_one-more history entry kept.alone refl;
+        count = let c = kept.count in omega (arith, c, size_more);
+        begun = let b = kept.begun in let more = decided.begun in let nothing = ap length (append-nil history) in let all = ap length none in omega (arith, b, more, nothing, size_more, all);
+        bounded = let some = kept.bounded.1 in omega (arith, some, short, one);
+        actions = let a = kept.actions in omega (arith, a, one);
+      }
+
+  decides_late : (d : Device) (history : List Entry) (now next_now : Transactions) (number late : ℕ) (actions : List Action) (events fewer played started : ℕ)
+      → events ≡ fewer + 1 → late < length actions → IsDecided d.cached now call.Commit (reply.Committed number) actions next_now
+      → IsKept d opened history now [] (flight.Waiting call.Commit) events played started
+      → IsKept d opened history next_now actions (flight.Committing number late) fewer played started
+  decides_late d history now next_now number late actions events fewer played started one later decided kept =
+      let entry = unanswered (length history + 1) call.Commit (reply.Committed number) in
+      let before = state_now d history now call.Commit events played started kept in
+      let size_more = length-append history (entry ∷ []) in
+      let short = decided.short in
+      record {
+        legal = kept.legal;
+        legal_due = legal-more (logical_state opened) history entry kept.legal kept.alone refl refl (subst (λ (s : State). IsAllowed s 1 call.Commit (reply.Committed number)) (sym before) decided.allowed);
+        represents = state_after-more (logical_state opened) history entry ∙ ap (λ (s : State). next s 1 call.Commit (reply.Committed number)) before ∙ decided.state;
+        stage = decided.stage;
+        under_way = subst (λ (l : List Action). IsUnderWay l d) (sym decided.plan_is) (under_way-begins d [] decided.parts refl kept.under_way decided.plan);
+        answers = kept.answers;
+        alone = kept.alone;
+        count = kept.count;
+        begun = let b = kept.begun in let more = decided.begun in let nothing = ap length (append-nil history) in omega (arith, b, more, nothing, size_more);
+        bounded = (later, (let some = kept.bounded.1 in omega (arith, some, short, one)));
+        actions = let a = kept.actions in omega (arith, a, one);
+      }
+
+  -- a decision
+  pub decides : (d : Device) (history new : List Entry) (now next_now : Transactions) (said : Call) (given copy : Reply) (late : Option Late) (entered : Flight) (actions : List Action) (events fewer played started : ℕ)
+      → events ≡ fewer + 1 → copy ≡ given → IsPlacedLate late said given actions → IsEntered late said given copy history new entered → IsDecided d.cached now said given actions next_now
+      → IsKept d opened history now [] (flight.Waiting said) events played started → IsKept d opened new next_now actions entered fewer played started
+  decides d history new now next_now said given copy None entered actions events fewer played started one copied places enters decided kept =
+      rw (enters.0, enters.1) (decides_now d history now next_now said given copy actions events fewer played started one copied decided kept)
+  decides d history new now next_now said (reply.Committed number) copy (Some late) entered actions events fewer played started one copied places enters decided kept =
+      rw (enters.0, enters.1, places.1)
+      (decides_late d history now next_now number late.left actions events fewer played started one places.2
+      (subst (λ (c : Call). IsDecided d.cached now c (reply.Committed number) actions next_now) places.0 decided)
+      (subst (λ (c : Call). IsKept d opened history now [] (flight.Waiting c) events played started) places.0 kept))
+  decides d history new now next_now said given copy (Some late) entered actions events fewer played started one copied places enters decided kept = absurd places
+
+  -- a reply
+  pub replies : (d : Device) (history new : List Entry) (now : Transactions) (given : Reply) (events fewer played started : ℕ) → events ≡ fewer + 1
+      → ((front : List Entry) → (last : Entry) → history ≡ front ++ last ∷ [] → new ≡ front ++ answered last ∷ [])
+      → IsKept d opened history now [] (flight.Placed given) events played started → IsKept d opened new now [] flight.Idle fewer played started
+  replies d history new now given events fewer played started one marked kept =
+      let ends = kept.answers in
+      let is_new = marked ends.front ends.last ends.is in
+      let none_old = append-nil history in
+      let none = append-nil (ends.front ++ answered ends.last ∷ []) in
+      let legal = legal-answered (logical_state opened) ends.front ends.last (subst (λ (h : List Entry). IsLegal (logical_state opened) h) ends.is kept.legal) in
+      let size_old = length-append ends.front (ends.last ∷ []) in
+      let size_new = length-append ends.front (answered ends.last ∷ []) in
+      let size = ap length ends.is in
+      rw is_new (record {
+        legal = legal;
+        legal_due = subst (λ (h : List Entry). IsLegal (logical_state opened) h) (sym none) legal;
+        represents = ap (state_after (logical_state opened)) none ∙ state_after-answered (logical_state opened) ends.front ends.last
+            ∙ ap (state_after (logical_state opened)) (sym (none_old ∙ ends.is)) ∙ kept.represents;
+        stage = kept.stage;
+        under_way = kept.under_way;
+        answers = All-append (λ entry. entry.answered ≡ true) ends.front (answered ends.last ∷ []) ends.given_before
+            (All-cons (λ entry. entry.answered ≡ true) (answered ends.last) [] refl (All-nil (λ entry. entry.answered ≡ true)));
+        alone = of_one-answered ends.front ends.last (subst IsOfOne ends.is kept.alone);
+        count = let c = kept.count in omega (arith, c, size, size_old, size_new);
+        begun = let b = kept.begun in let l = ap length none_old in let m = ap length none in omega (arith, b, l, m, size, size_old, size_new);
+        bounded = refl;
+        actions = let a = kept.actions in omega (arith, a, one);
+      })
+
+  -- a call
+  pub starts : (d : Device) (history : List Entry) (now : Transactions) (left : List Action) (said : Call) (events played started : ℕ) → IsTrue (is_served said)
+      → IsKept d opened history now left flight.Idle events played started → IsKept d opened history now left (flight.Waiting said) 65536 played (started + 1)
+  starts d history now left said events played started served kept = record {
+    legal = kept.legal;
+    legal_due = kept.legal_due;
+    represents = kept.represents;
+    stage = kept.stage;
+    under_way = kept.under_way;
+    answers = kept.answers;
+    alone = kept.alone;
+    count = let c = kept.count in omega (arith, c);
+    begun = kept.begun;
+    bounded = (kept.bounded, omega arith, served);
+    actions = let a = kept.actions in omega (arith, a);
+  }

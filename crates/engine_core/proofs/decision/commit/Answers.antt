@@ -1,0 +1,31 @@
+use Rattle.std.proofs.Common.{◌≡◌, ◌∙◌, ℕ, ◌+◌, ◌<◌, ◌≤◌, get_or, length, refl, ap, sym, arith}
+use Rattle.mv_model.specs.declared.call.Call.TheVariants as call
+use Rattle.mv_model.specs.declared.reply.Reply.TheVariants as reply
+use Rattle.pm_model.specs.Fixed.{last_at}
+use Rattle.engine_core.specs.Stage.{high_at}
+use Rattle.engine_core.proofs.Answered.{closes, spent, stands}
+use Rattle.engine_core.proofs.Commits.{commit-decided}
+use Rattle.engine_core.proofs.decision.commit.Goals as goal
+
+pub returns-then-own-eq0 : goal.returns-then-own-eq0
+returns-then-own-eq0 g c =
+    let words = (g.M.Memory.device c.args.memory.now).cached in
+    closes words c.args.begun c.args.own c.close.result c.requires c.if-own-eq0.true c.close.ensures
+
+pub returns-then-last-ge-MAX_COMMITS : goal.returns-then-last-ge-MAX_COMMITS
+returns-then-last-ge-MAX_COMMITS g c =
+    let words = (g.M.Memory.device c.args.memory.now).cached in
+    let is_last : c.load-last.result ≡ get_or words last_at 0 = c.load-last.ensures ∙ ap (λ (k : ℕ). get_or words k 0) c.last_commit.ensures in
+    stands words _ call.Commit reply.Spent c.refuse.result c.refuse.ensures (spent words c.args.begun c.args.own c.requires (omega (arith, c.if-own-eq0.false)) (omega (arith, is_last, c.if-last-ge-MAX_COMMITS.true))) tt
+
+pub returns : goal.returns
+returns g c =
+    let words = (g.M.Memory.device c.args.memory.now).cached in
+    let is_last : c.load-last.result ≡ get_or words last_at 0 = c.load-last.ensures ∙ ap (λ (k : ℕ). get_or words k 0) c.last_commit.ensures in
+    let is_high : c.load-first.result ≡ get_or words high_at 0 = c.load-first.ensures ∙ ap (λ (k : ℕ). get_or words k 0) c.high.ensures in
+    record {
+      copied = c.in_ok-copy.ensures;
+      decided = commit-decided words c.args.begun c.args.own.number c.args.own.rows c.load-first.result c.load-last.result c.requires (sym is_high) (sym is_last) (omega (arith, c.if-own-eq0.false)) (omega (arith, c.if-last-ge-MAX_COMMITS.false)) _ c.in_ok-made.made.plan.left refl c.in_ok-made.ensures.left
+          (omega (arith, c.in_ok-made.ensures.actions));
+      late = (refl, refl, c.in_ok-made.ensures.later);
+    }

@@ -1,0 +1,31 @@
+use Rattle.std.proofs.Common.{◌≡◌, ◌⊎◌, inl, inr, ⊎_elim, ◌∙◌, ℕ, ◌+◌, ◌≤◌, get_or, length, refl, ap, arith, rules}
+use mir.Syntax.{w64}
+use mir.Val.{SFits}
+use Rattle.std.proofs.lemmas.Int.{to_z-of_z}
+use Rattle.mv_model.specs.declared.reply.Reply.TheVariants as reply
+use Rattle.engine_core.specs.Served.{insert_of}
+use Rattle.engine_core.specs.Stage.{high_at}
+use Rattle.engine_core.proofs.Answered.{stands}
+use Rattle.engine_core.proofs.Decisions.{insert-decided, insert-full}
+use Rattle.engine_core.proofs.decision.insert.Goals as goal
+use Rattle.engine_core.proofs.decision.insert.Goals.{then-own-from-via-then-own-from, then-own-from-via-else-own-from+then-row-ge-STAGE_ROWS}
+
+pub returns-then-own-from : goal.returns-then-own-from
+returns-then-own-from g c =
+    let words = (g.M.Memory.device c.args.memory.now).cached in
+    let is_high : c.load.result ≡ get_or words high_at 0 = c.load.ensures ∙ ap (λ (k : ℕ). get_or words k 0) c.high.ensures in
+    stands words _ (insert_of c.args.number) (reply.Full 1 0) c.refuse.result c.refuse.ensures (insert-full words c.args.begun c.args.own.number c.args.own.rows c.args.number c.requires
+    (elim c.then-own-from.branch [ then-own-from-via-then-own-from w ↦ inl (omega (arith, c.from.ensures, w.if-own-from.true)) | then-own-from-via-else-own-from+then-row-ge-STAGE_ROWS w ↦ inr (omega (arith, is_high, w.if-row-ge-STAGE_ROWS.true)) ])) tt
+
+pub returns : goal.returns
+returns g c =
+    let words = (g.M.Memory.device c.args.memory.now).cached in
+    let is_high : c.load.result ≡ get_or words high_at 0 = c.load.ensures ∙ ap (λ (k : ℕ). get_or words k 0) c.high.ensures in
+    let fits : SFits w64 c.args.number = search rules in
+    record {
+      copied = c.in_ok-copy.ensures;
+      decided = insert-decided words c.args.begun c.args.own.number c.args.own.rows c.requires _ c.key_word.result (ap (λ (n : ℕ). n + c.args.own.rows) is_high)
+          (omega (arith, c.from.ensures, c.if-own-from.false)) (omega (arith, c.if-row-ge-STAGE_ROWS.false)) c.args.number c.in_ok-plan_insert.field-0.left (simp to_z-of_z at c.key_word.ensures) c.in_ok-plan_insert.ensures.left
+          (omega (arith, c.in_ok-plan_insert.ensures.actions));
+      late = tt;
+    }

@@ -1,0 +1,183 @@
+-- What contracts see of a core.
+use Rattle.std.specs.Prelude.{◌≡◌, ◌≢◌, ◌⊎◌, ℕ, Option, Some, None, ◌+◌, ◌*◌, ◌<◌, ◌≤◌, true, false, IsTrue, List, [], ◌∷◌, ◌++◌, length, slice_index, All}
+use Rattle.mv_model.specs.declared.call.Call.{Call}
+use Rattle.mv_model.specs.declared.call.Call.TheVariants as call
+use Rattle.mv_model.specs.declared.reply.Reply.{Reply}
+use Rattle.mv_model.specs.declared.reply.Reply.TheVariants as reply
+use Rattle.mv_model.specs.declared.reply.Entry.{Entry}
+use Rattle.mv_model.specs.State.{State}
+use Rattle.mv_model.specs.History.{state_after}
+use Rattle.pm_model.specs.declared.action.Action.{Action}
+use Rattle.pm_model.specs.Device.{Device, acted}
+use Rattle.pm_model.specs.Plans.{at_rest}
+use Rattle.engine_core.specs.Stage.{stage_words}
+use Rattle.engine_core.specs.Decided.{IsFullWhere}
+use Rattle.engine_core.specs.LogicalState.{logical_state}
+use Rattle.engine_core.specs.declared.decision.Late.{Late}
+use Rattle.engine_core.specs.declared.flight.Flight.{Flight}
+use Rattle.engine_core.specs.declared.flight.Flight.TheVariants as flight
+use Rattle.engine_core.specs.declared.flight.Step.{Step}
+use Rattle.engine_core.specs.declared.flight.Step.TheVariants.{Played, Decided, Blocked, Replied}
+
+-- the call of session 1 that is in flight: none, one that isn't in the history yet, or the last entry of the history
+pub data InFlight : Type 0 where
+  Nothing : InFlight
+  Unplaced : Call → InFlight
+  Last : InFlight
+
+-- a core: its memory, the words at its opening, the history since then, the call in flight, how many actions of its plan
+-- are left, how many more events it may take, how many actions were played and how many calls were started
+pub record CoreState (M : Type 0) : Type 0 where
+  pub memory : M
+  pub opened : List ℕ
+  pub history : List Entry
+  pub in_flight : InFlight
+  pub to_play : ℕ
+  pub events_left : ℕ
+  pub played : ℕ
+  pub started : ℕ
+
+abbrev pub in_flight_of : Flight → InFlight
+in_flight_of flight.Idle = Nothing
+in_flight_of (flight.Waiting said) = Unplaced said
+in_flight_of (flight.Committing number late) = Unplaced call.Commit
+in_flight_of (flight.Placed given) = Last
+
+-- the call is to be decided
+abbrev pub IsWaiting : Flight → Type 0
+IsWaiting flight.Idle = ⊥
+IsWaiting (flight.Waiting said) = Unit {0}
+IsWaiting (flight.Committing number late) = ⊥
+IsWaiting (flight.Placed given) = ⊥
+
+-- an entry of session 1 whose reply wasn't given yet
+abbrev pub unanswered : ℕ → Call → Reply → Entry
+unanswered ordinal said given = record { session = 1; ordinal = ordinal; call = said; reply = given; answered = false }
+
+-- the same entry once its reply was given
+abbrev pub answered : Entry → Entry
+answered entry = record { session = entry.session; ordinal = entry.ordinal; call = entry.call; reply = entry.reply; answered = true }
+
+-- each entry is of session 1
+abbrev pub IsOfOne : List Entry → Type 0
+IsOfOne [] = Unit {0}
+IsOfOne (entry ∷ entries) = (entry.session ≡ 1) × IsOfOne entries
+
+-- the entry that a commit is to get
+abbrev pub due : ℕ → Flight → List Entry
+due count flight.Idle = []
+due count (flight.Waiting said) = []
+due count (flight.Committing number late) = unanswered (count + 1) call.Commit (reply.Committed number) ∷ []
+due count (flight.Placed given) = []
+
+-- 1 while a call in flight has no entry
+abbrev pub pending : Flight → ℕ
+pending flight.Idle = 0
+pending (flight.Waiting said) = 1
+pending (flight.Committing number late) = 1
+pending (flight.Placed given) = 0
+
+-- A call that is decided has its entry, or it is a commit that waits for its place.
+abbrev pub IsEntered : Option Late → Call → Reply → Reply → List Entry → List Entry → Flight → Type 0
+IsEntered (Some late) said given copy before after in_flight = (after ≡ before) × (in_flight ≡ flight.Committing late.number late.left)
+IsEntered None said given copy before after in_flight = (after ≡ before ++ unanswered (length before + 1) said given ∷ []) × (in_flight ≡ flight.Placed copy)
+
+-- A commit has its entry once so many actions are left; nothing else changes.
+abbrev pub IsPlacedAt : ℕ → Flight → Flight → List Entry → List Entry → Type 0
+IsPlacedAt left flight.Idle now before after = (now ≡ flight.Idle) × (after ≡ before)
+IsPlacedAt left (flight.Waiting said) now before after = (now ≡ flight.Waiting said) × (after ≡ before)
+IsPlacedAt left (flight.Committing number late) now before after =
+    ((late ≡ left) × (now ≡ flight.Placed (reply.Committed number)) × (after ≡ before ++ unanswered (length before + 1) call.Commit (reply.Committed number) ∷ []))
+    ⊎ ((late ≢ left) × (now ≡ flight.Committing number late) × (after ≡ before))
+IsPlacedAt left (flight.Placed given) now before after = (now ≡ flight.Placed given) × (after ≡ before)
+
+-- the last entry has this reply, and it alone wasn't given yet
+pub record EndsUnanswered (given : Reply) (history : List Entry) : Type 0 where
+  pub front : List Entry
+  pub last : Entry
+  pub is : history ≡ front ++ last ∷ []
+  pub given_before : All (λ entry. entry.answered ≡ true) front
+  pub open_still : last.answered ≡ false
+  pub reply : last.reply ≡ given
+
+-- Exactly the entry of a call in flight isn't answered.
+abbrev pub IsAnswered : Flight → List Entry → Type 0
+IsAnswered flight.Idle history = All (λ entry. entry.answered ≡ true) history
+IsAnswered (flight.Waiting said) history = All (λ entry. entry.answered ≡ true) history
+IsAnswered (flight.Committing number late) history = All (λ entry. entry.answered ≡ true) history
+IsAnswered (flight.Placed given) history = EndsUnanswered given history
+
+-- what a step does to the device: one action of the session, or nothing
+abbrev pub ActsOnce : Step → ℕ → Device → Device → Type 0
+ActsOnce Played session before after = (action : Action) × (after ≡ acted session action before)
+ActsOnce Decided session before after = after ≡ before
+ActsOnce (Blocked holder) session before after = after ≡ before
+ActsOnce (Replied given) session before after = after ≡ before
+
+-- the reply of a commit that has a number
+abbrev pub IsNumbered : Reply → Type 0
+IsNumbered (reply.Committed number) = Unit {0}
+IsNumbered other = ⊥
+
+-- the call gets its entry, the last of the history, with this reply
+pub record GetsEntry {M : Type 0} (said : Call) (given : Reply) (before after : CoreState M) : Type 0 where
+  pub was : before.in_flight ≡ Unplaced said
+  pub now : after.in_flight ≡ Last
+  pub history : after.history ≡ before.history ++ unanswered before.started said given ∷ []
+
+-- the call and the history stay
+pub record Stays {M : Type 0} (before after : CoreState M) : Type 0 where
+  pub in_flight : after.in_flight ≡ before.in_flight
+  pub history : after.history ≡ before.history
+
+-- A call gets its entry at its decision; but a commit that is to have a number waits for it.
+pub record GetsEntryAtDecision {M : Type 0} (before after : CoreState M) : Type 0 where
+  pub said : Call
+  pub given : Reply
+  pub entry : GetsEntry said given before after
+  pub no_number : IsNumbered given → ⊥
+  pub full : IsFullWhere (state_after (logical_state before.opened) before.history) given
+
+-- Such a commit gets its entry at an action.
+pub record GetsNumber {M : Type 0} (before after : CoreState M) : Type 0 where
+  pub number : ℕ
+  pub entry : GetsEntry call.Commit (reply.Committed number) before after
+
+-- The reply of the last entry is given, and no call is in flight.
+pub record GetsReply {M : Type 0} (given : Reply) (before after : CoreState M) : Type 0 where
+  pub was : before.in_flight ≡ Last
+  pub now : after.in_flight ≡ Nothing
+  pub front : List Entry
+  pub last : Entry
+  pub history : before.history ≡ front ++ last ∷ []
+  pub reply : last.reply ≡ given
+  pub answered_now : after.history ≡ front ++ answered last ∷ []
+
+-- what a step does to the call in flight and to the history
+abbrev pub Moves : {M : Type 0} → Step → CoreState M → CoreState M → Type 0
+Moves Played before after = Stays before after ⊎ GetsNumber before after
+Moves Decided before after = GetsEntryAtDecision before after ⊎ ((before.in_flight ≡ Unplaced call.Commit) × Stays before after)
+Moves (Blocked holder) before after = ⊥
+Moves (Replied given) before after = GetsReply given before after
+
+-- how many actions a step plays
+abbrev pub actions_of : Step → ℕ
+actions_of Played = 1
+actions_of Decided = 0
+actions_of (Blocked holder) = 0
+actions_of (Replied given) = 0
+
+-- what a step does beside the device: it takes one of the events that are left
+pub record IsEvent {M : Type 0} (step : Step) (before after : CoreState M) : Type 0 where
+  pub moves : Moves step before after
+  pub opened : after.opened ≡ before.opened
+  pub started : after.started ≡ before.started
+  pub events : after.events_left + 1 ≡ before.events_left
+  pub played : after.played ≡ before.played + actions_of step
+
+-- a device at rest with the words of a formatted stage image
+pub record IsFormatted (d : Device) : Type 0 where
+  pub segments : ℕ
+  pub one_or_more : 1 ≤ segments
+  pub most : segments ≤ 128
+  pub rests : d ≡ at_rest (stage_words segments)

@@ -1,0 +1,71 @@
+-- What a decision has to meet.
+use Rattle.std.specs.Prelude.{◌≡◌, ◌⊎◌, ℕ, ◌+◌, ◌<◌, ◌≤◌, List, [], length, Option, Some, None}
+use Rattle.mv_model.specs.declared.call.Call.{Call}
+use Rattle.mv_model.specs.declared.reply.Reply.{Reply}
+use Rattle.mv_model.specs.declared.call.Call.TheVariants as call
+use Rattle.mv_model.specs.declared.reply.Reply.TheVariants as reply
+use Rattle.std.specs.Option.{option_map_or}
+use Rattle.mv_model.specs.State.{State, transaction_of}
+use Rattle.mv_model.specs.View.{next_row_of}
+use Rattle.mv_model.specs.History.{IsAllowed}
+use Rattle.mv_model.specs.Next.{next}
+use Rattle.pm_model.specs.declared.action.Action.{Action}
+use Rattle.pm_model.specs.PlanState.{PlanState}
+use Rattle.pm_model.specs.Plans.{Part, plan_of, words_after, IsPlan}
+use Rattle.engine_core.specs.StageRules.{IsStage}
+use Rattle.engine_core.specs.LogicalState.{state_of}
+use Rattle.engine_core.specs.StagePlans.{close_parts}
+use Rattle.engine_core.specs.declared.decision.Decision.{Decision}
+use Rattle.engine_core.specs.declared.decision.Late.{Late}
+use Rattle.engine_core.specs.declared.transactions.Transactions.{Transactions}
+
+-- the actions that are left to play
+abbrev pub left_of : Option PlanState → List Action
+left_of None = []
+left_of (Some plan) = plan.left
+
+-- how many rows the open transaction of session 1 has created
+abbrev pub rows_created : State → ℕ
+rows_created state = option_map_or (λ own. length own.writes.created) (transaction_of state 1) 0
+
+-- An insert is refused for want of room exactly where all rows of the table, or all entries of the object, are used.
+abbrev pub IsFullWhere : State → Reply → Type 0
+IsFullWhere state (reply.Full need largest) = (need ≡ 1) × (largest ≡ 0) × ((next_row_of state 0 ≡ 4096) ⊎ (rows_created state ≡ 60))
+IsFullWhere state (reply.Row row) = (row < 4096) × (rows_created state < 60)
+IsFullWhere state (reply.DictFull column) = ⊥
+IsFullWhere state other = Unit {0}
+
+-- From these words and transactions the call is given this reply: the sequential table allows it; and once these actions
+-- were played, the words and the transactions stand for the state that it leaves.
+pub record IsDecided (words : List ℕ) (before : Transactions) (said : Call) (given : Reply) (actions : List Action) (after : Transactions) : Type 0 where
+  pub allowed : IsAllowed (state_of words before) 1 said given
+  pub parts : List Part
+  pub plan : IsPlan (length words) parts
+  pub plan_is : actions ≡ plan_of parts
+  pub state : next (state_of words before) 1 said given ≡ state_of (words_after actions words) after
+  pub stage : IsStage (words_after actions words) after.running
+  pub full : IsFullWhere (state_of words before) given
+  pub short : length actions ≤ 400
+  pub begun : after.begun ≤ before.begun + 1
+
+-- A commit gets its place in the history, and its number, while its plan is played; every other call at its decision.
+abbrev pub IsPlacedLate : Option Late → Call → Reply → List Action → Type 0
+IsPlacedLate (Some late) said (reply.Committed number) left = (said ≡ call.Commit) × (late.number ≡ number) × (late.left < length left)
+IsPlacedLate (Some late) said other left = ⊥
+IsPlacedLate None said (reply.Committed number) left = ⊥
+IsPlacedLate None said other left = Unit {0}
+
+-- what a decision has to meet
+pub record IsDecision (words : List ℕ) (before : Transactions) (said : Call) (decision : Decision) : Type 0 where
+  pub copied : decision.copy ≡ decision.reply
+  pub decided : IsDecided words before said decision.reply (left_of decision.plan) decision.after
+  pub late : IsPlacedLate decision.late said decision.reply (left_of decision.plan)
+
+-- the decision that ends a transaction that wrote nothing
+pub record IsClosed (begun : ℕ) (decision : Decision) : Type 0 where
+  pub reply : decision.reply ≡ reply.ReadOnly
+  pub copied : decision.copy ≡ decision.reply
+  pub plan : left_of decision.plan ≡ plan_of close_parts
+  pub actions : length (left_of decision.plan) ≡ 3
+  pub after : decision.after ≡ record { begun = begun; running = None }
+  pub late : decision.late ≡ None

@@ -1,0 +1,44 @@
+-- What a core keeps.
+use Rattle.std.specs.Prelude.{◌≡◌, ℕ, ◌+◌, ◌*◌, ◌<◌, ◌≤◌, false, IsTrue, List, [], ◌∷◌, ◌++◌, length}
+use Rattle.mv_model.specs.declared.reply.Entry.{Entry}
+use Rattle.mv_model.specs.History.{IsLegal, state_after}
+use Rattle.pm_model.specs.declared.action.Action.{Action}
+use Rattle.pm_model.specs.Device.{Device, IsClean}
+use Rattle.pm_model.specs.Plans.{Play, IsPlaying, words_after}
+use Rattle.engine_core.specs.LogicalState.{logical_state, state_of}
+use Rattle.engine_core.specs.StageRules.{IsStage}
+use Rattle.engine_core.specs.Served.{is_served}
+use Rattle.engine_core.specs.CoreState.{IsAnswered, IsOfOne, due, pending}
+use Rattle.engine_core.specs.declared.flight.Flight.{Flight}
+use Rattle.engine_core.specs.declared.flight.Flight.TheVariants as flight
+use Rattle.engine_core.specs.declared.transactions.Transactions.{Transactions}
+
+-- session 1 is playing a plan of which these actions are left, and each word that isn't the plan's own is clean
+pub record IsUnderWay (left : List Action) (d : Device) : Type 0 where
+  pub play : Play
+  pub played : ℕ
+  pub session : play.session ≡ 1
+  pub playing : IsPlaying play played left d
+  pub rest : (w : ℕ) → play.own w ≡ false → IsClean d w
+
+-- how many more events a call in flight may take, and what is left to play
+abbrev pub IsBounded : Flight → List Action → ℕ → Type 0
+IsBounded flight.Idle left events_left = left ≡ []
+IsBounded (flight.Waiting said) left events_left = (left ≡ []) × (500 ≤ events_left) × IsTrue (is_served said)
+IsBounded (flight.Committing number late) left events_left = (late < length left) × (length left < events_left)
+IsBounded (flight.Placed given) left events_left = length left < events_left
+
+-- The history is legal from the state that the opened words stand for. The state that it leaves, once a commit that is
+-- decided has its entry, is that of the words as they become once the plan in play was played.
+pub record IsKept (d : Device) (opened : List ℕ) (history : List Entry) (now : Transactions) (left : List Action) (in_flight : Flight) (events_left played started : ℕ) : Type 0 where
+  pub legal : IsLegal (logical_state opened) history
+  pub legal_due : IsLegal (logical_state opened) (history ++ due (length history) in_flight)
+  pub represents : state_after (logical_state opened) (history ++ due (length history) in_flight) ≡ state_of (words_after left d.cached) now
+  pub stage : IsStage (words_after left d.cached) now.running
+  pub under_way : IsUnderWay left d
+  pub answers : IsAnswered in_flight history
+  pub alone : IsOfOne history
+  pub count : length history + pending in_flight ≡ started
+  pub begun : now.begun ≤ length (history ++ due (length history) in_flight)
+  pub bounded : IsBounded in_flight left events_left
+  pub actions : played + events_left ≤ 65536 * started

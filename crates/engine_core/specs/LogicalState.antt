@@ -1,0 +1,132 @@
+-- The table state that the words of a stage image stand for.
+use Rattle.std.specs.Prelude.{ℕ, ℤ, zero, suc, ◌+◌, ◌/◌, ◌%◌, ◌^◌, ◌==◌, ◌&&◌, ◌||◌, not, nat_le, nat_lt, max, Bool, if◌then◌else◌, codes, List, [], ◌∷◌, length, map, filter, Option, None, option_map, slice_set, slice_index}
+use Rattle.std.specs.List.{range_with_len}
+use Rattle.std.specs.Option.{option_map_or}
+use Rattle.std.specs.Int.{cast_signed}
+use mir.Syntax.{w64}
+use Rattle.mv_model.specs.declared.value.Value.TheVariants.{Int}
+use Rattle.mv_model.specs.declared.shape.Column.{Column}
+use Rattle.mv_model.specs.declared.shape.Kind.TheVariants as kind
+use Rattle.mv_model.specs.State.{CreatedRow, RowKey, Table, WriteSet, Transaction, State, all_idle}
+use Rattle.pm_model.specs.Fixed.{last_at, state_at, commit_word_at, entry_at}
+use Rattle.engine_core.specs.Stage.{high_at, born_at, ended_at, value_at}
+use Rattle.engine_core.specs.declared.transactions.Transactions.{Transactions}
+use Rattle.engine_core.specs.declared.transactions.Running.{Running}
+
+-- ── the one table ──
+
+-- its columns
+abbrev pub columns : List Column
+columns = record { name = codes "a"; kind = kind.Int } ∷ []
+
+-- the table that has given out so many row numbers
+abbrev pub table_of : ℕ → Table
+table_of next_row = record { name = codes "t"; columns = columns; next_row = next_row }
+
+-- the key of a row
+abbrev pub key_of : ℕ → RowKey
+key_of row = record { table = 0; row = row }
+
+-- the integer that a key word spells: its 64 bits with the sign bit flipped
+abbrev pub integer_of : ℕ → ℤ
+integer_of word = cast_signed w64 ((word + 2 ^ 63) % 2 ^ 64)
+
+-- a row, with the value that stands in the words
+abbrev pub created_row : List ℕ → ℕ → CreatedRow
+created_row words row = record { key = key_of row; values = Int (integer_of (slice_index words (value_at row))) ∷ [] }
+
+-- the rows of the table that pass a test, in ascending order
+unfoldable pub rows_where : (ℕ → Bool) → List ℕ
+rows_where test = filter test (range_with_len 0 4096)
+
+-- ── commits ──
+
+-- commit k created the rows that say so, and ended those that say so
+abbrev pub commit_of : List ℕ → ℕ → WriteSet
+commit_of words number = record {
+  created = map (created_row words) (rows_where (λ row. slice_index words (born_at row) == number));
+  ended = map key_of (rows_where (λ row. slice_index words (ended_at row) == number));
+}
+
+-- the commits from 1 to this number
+abbrev pub commits_in : List ℕ → ℕ → List WriteSet
+commits_in words count = map (commit_of words) (range_with_len 1 count)
+
+-- the greatest value at the numbers below n
+unfoldable pub greatest : (ℕ → ℕ) → ℕ → ℕ
+greatest value zero = 0
+greatest value (suc n) = max (value n) (greatest value n)
+
+-- this number of an object that is open, and 0 of an idle one
+abbrev pub of_open : List ℕ → (ℕ → ℕ) → ℕ → ℕ
+of_open words value object = if slice_index words (state_at object) == 1 then value object else 0
+
+-- how many commits the words stand for: the greatest of the last commit number and the commit words of open objects
+abbrev pub commit_count : List ℕ → ℕ
+commit_count words = max (slice_index words last_at) (greatest (of_open words (λ object. slice_index words (commit_word_at object))) 16)
+
+-- one more than the row that an entry word says was created
+abbrev pub past_entry : ℕ → ℕ
+past_entry word = if word / 2 ^ 56 == 1 then word % 2 ^ 32 + 1 else 0
+
+-- the next row: no commit has used it up, and it is past the rows that open transactions created
+abbrev pub next_row : List ℕ → ℕ
+next_row words =
+    max (slice_index words high_at)
+    (greatest (of_open words (λ object. greatest (λ nth. past_entry (slice_index words (entry_at object nth))) 60)) 16)
+
+-- The table state that the words of an image stand for: its commits, and no open transaction.
+abbrev pub logical_state : List ℕ → State
+logical_state words = record {
+  tables = table_of (next_row words) ∷ [];
+  commits = commits_in words (commit_count words);
+  begun = 0;
+  running = all_idle;
+}
+
+-- ── the open transaction ──
+
+-- the number is among so many from the first on
+abbrev pub within : ℕ → ℕ → ℕ → Bool
+within first count number = nat_le first number && nat_lt number (first + count)
+
+-- The open transaction sees the row: no commit ended it, and a commit or the transaction itself created it.
+abbrev pub is_seen : List ℕ → ℕ → ℕ → Bool
+is_seen words own row =
+    let last = slice_index words last_at in
+    let is_row = within 0 4096 row in
+    not (within 1 last (slice_index words (ended_at row)) && is_row)
+    && (within 1 last (slice_index words (born_at row)) && is_row || within (slice_index words high_at) own row)
+
+-- so many rows from this one on
+abbrev pub rows_from : List ℕ → ℕ → ℕ → List CreatedRow
+rows_from words first count = map (created_row words) (range_with_len first count)
+
+-- a state of the one table, in which only session 1 may have a transaction open
+abbrev pub state_by : ℕ → List WriteSet → ℕ → Option Transaction → State
+state_by next commits begun own = record {
+  tables = table_of next ∷ [];
+  commits = commits;
+  begun = begun;
+  running = slice_set all_idle 1 own;
+}
+
+-- how many rows the open transaction created
+abbrev pub rows_of : Option Running → ℕ
+rows_of running = option_map_or (λ own. own.rows) running 0
+
+-- the open transaction: it reads all commits, and its rows stand behind those of the commits
+abbrev pub transaction_in : List ℕ → Running → Transaction
+transaction_in words own = record {
+  number = own.number;
+  snapshot = slice_index words last_at;
+  writes = record { created = rows_from words (slice_index words high_at) own.rows; ended = [] };
+}
+
+-- The table state that the words stand for where session 1 has this transaction open, or none.
+abbrev pub state_of : List ℕ → Transactions → State
+state_of words now = state_by
+    (slice_index words high_at + rows_of now.running)
+    (commits_in words (slice_index words last_at))
+    now.begun
+    (option_map (transaction_in words) now.running)

@@ -1,0 +1,312 @@
+// What each call comes to at its decision: its reply, the actions to play, and the transactions afterwards.
+ghost use Rattle.std.specs.Prelude.{◌≡◌, ◌-◌, ◌^◌, ◌<◌, ◌≤◌, Some, None, [], ◌∷◌, IfOk, IsTrue, length};
+ghost use Rattle.mv_model.specs.declared.call.Call.TheVariants as call;
+ghost use Rattle.mv_model.specs.declared.value.Value.TheVariants.{Int};
+ghost use Rattle.engine_core.specs.Decided.{IsClosed, IsDecision};
+ghost use Rattle.engine_core.specs.LogicalState.{is_seen as sees, within};
+ghost use Rattle.engine_core.specs.Served.{get_of, insert_of, is_served};
+ghost use Rattle.engine_core.specs.StageRules.{IsStage};
+
+use crate::layout::{STAGE_ROWS, born, ended, high, integer, key_word, value};
+use crate::plans::{plan_close, plan_commit, plan_insert};
+use crate::transactions::{Running, Transactions};
+use mv_model::limits::MAX_COMMITS;
+use mv_model::{Call, Reply, Value, Values};
+use pm_model::{Memory, NoMemory, OBJECT_ENTRIES, Plan, last_commit};
+use std::alloc::Global;
+use txn_object::plan_begin;
+
+/// A commit that gets its place in the history, and this number, once so many actions of its plan are left.
+#[derive(Clone, Copy, Debug)]
+pub(crate) struct Late {
+    pub number: u64,
+    pub left: u32,
+}
+
+/// What a call comes to.
+#[derive(Drop)]
+pub(crate) struct Decision {
+    pub reply: Reply,
+    /// The reply once more: one is for the history, and one for the caller.
+    pub copy: Reply,
+    pub plan: Option<Plan>,
+    pub after: Transactions,
+    /// When the call gets its place in the history, where that is not at the decision.
+    pub late: Option<Late>,
+}
+
+/// Decides a call of session 1. Where memory is wanted and not there, the reply is that, and nothing changes.
+pub(crate) fn decide<M: Memory>(
+    alloc: Global,
+    memory: &M,
+    now: Transactions,
+    said: &Call,
+) -> Decision
+    requires stage { IsStage (M.device memory.now).cached now.running }
+    requires served { IsTrue (is_served said.now) }
+    requires begun { now.begun < 2 ^ 64 - 1 }
+    ensures { IsDecision (M.device memory.now).cached now said.now result }
+{
+    match settle(alloc, memory, now, said) {
+        Ok(decision) => decision,
+        Err(_) => Decision {
+            reply: Reply::NoMemory,
+            copy: Reply::NoMemory,
+            plan: None,
+            after: now,
+            late: None,
+        },
+    }
+}
+
+fn settle<M: Memory>(
+    alloc: Global,
+    memory: &M,
+    now: Transactions,
+    said: &Call,
+) -> Result<Decision, NoMemory>
+    requires stage { IsStage (M.device memory.now).cached now.running }
+    requires served { IsTrue (is_served said.now) }
+    requires begun { now.begun < 2 ^ 64 - 1 }
+    ensures { IfOk result (λ decision. IsDecision (M.device memory.now).cached now said.now decision) }
+{
+    match now.running {
+        None => settle_outside(alloc, memory, now.begun, said),
+        Some(own) => settle_inside(alloc, memory, now.begun, own, said),
+    }
+}
+
+// Decides a call while no transaction is open.
+fn settle_outside<M: Memory>(
+    alloc: Global,
+    memory: &M,
+    begun: u64,
+    said: &Call,
+) -> Result<Decision, NoMemory>
+    requires stage { IsStage (M.device memory.now).cached None }
+    requires served { IsTrue (is_served said.now) }
+    requires begun { begun < 2 ^ 64 - 1 }
+    ensures { IfOk result (λ decision. IsDecision (M.device memory.now).cached (record { begun = begun; running = None }) said.now decision) }
+{
+    match said {
+        Call::Begin => begin(alloc, memory, begun),
+        _ => refuse(
+            Reply::NoTxn,
+            Transactions {
+                begun,
+                running: None,
+            },
+        ),
+    }
+}
+
+// Decides a call while a transaction is open.
+fn settle_inside<M: Memory>(
+    alloc: Global,
+    memory: &M,
+    begun: u64,
+    own: Running,
+    said: &Call,
+) -> Result<Decision, NoMemory>
+    requires stage { IsStage (M.device memory.now).cached (Some own) }
+    requires served { IsTrue (is_served said.now) }
+    ensures { IfOk result (λ decision. IsDecision (M.device memory.now).cached (record { begun = begun; running = Some own }) said.now decision) }
+{
+    match said {
+        Call::Begin => refuse(
+            Reply::AlreadyOpen,
+            Transactions {
+                begun,
+                running: Some(own),
+            },
+        ),
+        Call::Commit => commit(alloc, memory, begun, own),
+        Call::Get { row, .. } => get(alloc, memory, begun, own, *row),
+        Call::Insert { values, .. } => match values.get(0) {
+            Value::Int(number) => insert(alloc, memory, begun, own, *number),
+            Value::Text(_) => unreachable!(),
+        },
+        _ => unreachable!(),
+    }
+}
+
+// A reply that leaves all as it is.
+fn refuse(reply: Reply, now: Transactions) -> Result<Decision, NoMemory>
+    ensures { IfOk result (λ decision. decision ≡ record { reply = reply; copy = reply; plan = None; after = now; late = None }) }
+{
+    Ok(Decision {
+        copy: reply.copy()?,
+        reply,
+        plan: None,
+        after: now,
+        late: None,
+    })
+}
+
+fn begin<M: Memory>(alloc: Global, memory: &M, begun: u64) -> Result<Decision, NoMemory>
+    requires stage { IsStage (M.device memory.now).cached None }
+    requires begun { begun < 2 ^ 64 - 1 }
+    ensures { IfOk result (λ decision. IsDecision (M.device memory.now).cached (record { begun = begun; running = None }) call.Begin decision) }
+{
+    let number = begun + 1;
+    let reply = Reply::Began {
+        txn: number,
+        snapshot: memory.load(last_commit()),
+    };
+    Ok(Decision {
+        copy: reply.copy()?,
+        reply,
+        plan: Some(plan_begin(alloc, 1)?),
+        after: Transactions {
+            begun: number,
+            running: Some(Running { number, rows: 0 }),
+        },
+        late: None,
+    })
+}
+
+fn insert<M: Memory>(
+    alloc: Global,
+    memory: &M,
+    begun: u64,
+    own: Running,
+    number: i64,
+) -> Result<Decision, NoMemory>
+    requires { IsStage (M.device memory.now).cached (Some own) }
+    ensures { IfOk result (λ decision. IsDecision (M.device memory.now).cached (record { begun = begun; running = Some own }) (insert_of number) decision) }
+{
+    let row = memory.load(high()) as u32 + own.rows;
+    if own.rows >= u32::from(OBJECT_ENTRIES) || row >= STAGE_ROWS {
+        return refuse(
+            Reply::Full {
+                need: 1,
+                largest: 0,
+            },
+            Transactions {
+                begun,
+                running: Some(own),
+            },
+        );
+    }
+    let reply = Reply::Row { row };
+    Ok(Decision {
+        copy: reply.copy()?,
+        reply,
+        plan: Some(plan_insert(alloc, own.rows, row, key_word(number))?),
+        after: Transactions {
+            begun,
+            running: Some(Running {
+                number: own.number,
+                rows: own.rows + 1,
+            }),
+        },
+        late: None,
+    })
+}
+
+fn get<M: Memory>(
+    alloc: Global,
+    memory: &M,
+    begun: u64,
+    own: Running,
+    row: u32,
+) -> Result<Decision, NoMemory>
+    requires { IsStage (M.device memory.now).cached (Some own) }
+    ensures { IfOk result (λ decision. IsDecision (M.device memory.now).cached (record { begun = begun; running = Some own }) (get_of row) decision) }
+{
+    let now = Transactions {
+        begun,
+        running: Some(own),
+    };
+    if row >= STAGE_ROWS || !is_seen(memory, own.rows, row) {
+        return refuse(Reply::NoRow, now);
+    }
+    let values = one_value(alloc, integer(memory.load(value(row))))?;
+    refuse(Reply::Values(values), now)
+}
+
+fn one_value(alloc: Global, number: i64) -> Result<Values, NoMemory>
+    ensures { IfOk result (λ values. values ≡ Int number ∷ []) }
+{
+    let mut values = Values::with_room(alloc, 1)?;
+    values.push(Value::Int(number));
+    Ok(Values::from(values))
+}
+
+// Whether the open transaction, which created so many rows, sees a row.
+fn is_seen<M: Memory>(memory: &M, own: u32, row: u32) -> bool
+    requires size { 32768 ≤ length (M.device memory.now).cached }
+    requires row { row < 4096 }
+    ensures { result ≡ sees (M.device memory.now).cached own row }
+{
+    let last = memory.load(last_commit());
+    let first = memory.load(high());
+    let is_ended = is_commit(memory.load(ended(row)), last);
+    let is_committed = is_commit(memory.load(born(row)), last);
+    let row = u64::from(row);
+    !is_ended && (is_committed || first <= row && row - first < u64::from(own))
+}
+
+// Whether a stamp is the number of a commit.
+fn is_commit(stamp: u64, last: u64) -> bool
+    ensures { result ≡ within 1 last stamp }
+{
+    1 <= stamp && stamp <= last
+}
+
+fn commit<M: Memory>(
+    alloc: Global,
+    memory: &M,
+    begun: u64,
+    own: Running,
+) -> Result<Decision, NoMemory>
+    requires { IsStage (M.device memory.now).cached (Some own) }
+    ensures { IfOk result (λ decision. IsDecision (M.device memory.now).cached (record { begun = begun; running = Some own }) call.Commit decision) }
+{
+    if own.rows == 0 {
+        return close(alloc, begun);
+    }
+    let last = memory.load(last_commit());
+    if last >= MAX_COMMITS {
+        return refuse(
+            Reply::Spent,
+            Transactions {
+                begun,
+                running: Some(own),
+            },
+        );
+    }
+    let first = memory.load(high()) as u32;
+    let made = plan_commit(alloc, first, own.rows, last + 1)?;
+    let reply = Reply::Committed { number: last + 1 };
+    Ok(Decision {
+        copy: reply.copy()?,
+        reply,
+        plan: Some(made.plan),
+        after: Transactions {
+            begun,
+            running: None,
+        },
+        late: Some(Late {
+            number: last + 1,
+            left: made.late,
+        }),
+    })
+}
+
+// Ends a transaction that wrote nothing.
+fn close(alloc: Global, begun: u64) -> Result<Decision, NoMemory>
+    ensures { IfOk result (λ decision. IsClosed begun decision) }
+{
+    let reply = Reply::ReadOnly;
+    Ok(Decision {
+        copy: reply.copy()?,
+        reply,
+        plan: Some(plan_close(alloc)?),
+        after: Transactions {
+            begun,
+            running: None,
+        },
+        late: None,
+    })
+}

@@ -1,0 +1,15 @@
+//! The core of the store: sessions that step over the words of a device, one action or one decision at a time.
+#![tactic(auto)]
+
+mod decision;
+mod flight;
+mod layout;
+mod plans;
+mod stage;
+mod store_core;
+mod transactions;
+
+pub use flight::Step;
+pub use pm_model::NoMemory;
+pub use stage::stage_fresh;
+pub use store_core::Core;

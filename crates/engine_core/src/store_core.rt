@@ -1,0 +1,231 @@
+// A session that steps over the words of a device, one action or one decision at a time.
+ghost use Rattle.mv_model.specs.History.{IsLegal};
+ghost use Rattle.engine_core.specs.LogicalState.{logical_state};
+ghost use Rattle.std.specs.Prelude.{false, ◌≡◌, ◌≢◌, ◌+◌, ◌-◌, ◌^◌, ◌<◌, [], IfOk, IfErr, IsTrue, ◌↔◌};
+ghost use Rattle.engine_core.specs.CoreState.{CoreState, ActsOnce, IsEvent, IsFormatted, Last, Nothing, Unplaced};
+ghost use Rattle.engine_core.specs.declared.flight.Step.TheVariants.{Decided, Played, Replied};
+ghost use Rattle.engine_core.specs.Served.{is_served};
+
+use crate::decision::decide;
+use crate::flight::{
+    Flight, Step, actions_left, enter, is_idle, is_placed, mark_answered, next_action,
+    place_commit, put_flight, take_call, take_reply,
+};
+use crate::transactions::Transactions;
+use mv_model::{Call, Entry, Reply};
+use pm_model::{Keep, Memory, NoMemory, Plan};
+use std::alloc::Global;
+use std::marker::Model;
+
+/// The events that a call may take.
+const MAX_EVENTS: u32 = 65_536;
+
+/// A device and the session that steps on it. The history since it was opened is legal from the state that the opened
+/// words stand for.
+#[derive(Drop)]
+pub struct Core<M: Memory> {
+    memory: M,
+    opened: Vec<u64>,
+    history: Vec<Entry>,
+    transactions: Transactions,
+    plan: Option<Plan>,
+    flight: Flight,
+    events_left: u32,
+    played: u64,
+    started: u32,
+}
+
+impl<M: Memory> Model for Core<M> {
+    ghost use Rattle.std.specs.Prelude.{◌+◌, ◌≤◌, length, vec_len, vec_capacity};
+    ghost use Rattle.engine_core.specs.CoreState.{CoreState, in_flight_of, pending};
+    ghost use Rattle.engine_core.specs.Decided.{left_of};
+    ghost use Rattle.engine_core.specs.Kept.{IsKept};
+
+    ghost Value = { CoreState M };
+
+    ghost view = { λ c. record { memory = c.memory; opened = c.opened.items; history = c.history.items; in_flight = in_flight_of c.flight; to_play = length (left_of c.plan); events_left = c.events_left; played = c.played; started = c.started } };
+
+    ghost invariant = { λ c. IsKept (M.device c.memory) c.opened.items c.history.items c.transactions (left_of c.plan) c.flight c.events_left c.played c.started
+        × (pending c.flight + vec_len c.history ≤ vec_capacity c.history) };
+}
+
+impl<M: Memory + Drop> Core<M> {
+    /// A core over a device at rest with the words of a formatted stage image.
+    pub fn from_memory(alloc: Global, memory: M) -> Result<Core<M>, NoMemory>
+        requires { IsFormatted (M.device memory) }
+        ensures memory { IfOk result (λ core. core.memory ≡ memory) }
+        ensures opened { IfOk result (λ core. core.opened ≡ (M.device memory).cached) }
+        ensures history { IfOk result (λ core. core.history ≡ []) }
+        ensures in_flight { IfOk result (λ core. core.in_flight ≡ Nothing) }
+        ensures played { IfOk result (λ core. core.played ≡ 0) }
+        ensures started { IfOk result (λ core. core.started ≡ 0) }
+    {
+        let opened = memory.choose(Keep::All)?;
+        Ok(Core {
+            memory,
+            opened,
+            history: Vec::new(alloc),
+            transactions: Transactions::none(),
+            plan: None,
+            flight: Flight::Idle,
+            events_left: 0,
+            played: 0,
+            started: 0,
+        })
+    }
+}
+
+impl<M: Memory> Core<M> {
+    /// Takes a call of a session that has none in flight. Where memory is refused, the core is as before, and the call
+    /// is dropped.
+    pub fn start(&mut self, session: u8, said: Call) -> Result<(), NoMemory>
+        requires session { session ≡ 1 }
+        requires free { self.old.in_flight ≡ Nothing }
+        requires served { IsTrue (is_served said) }
+        requires room { self.old.started < 2 ^ 32 - 1 }
+        ensures started { IfOk result (λ _. self.new ≡ record self.old { in_flight = Unplaced said; events_left = 65536; started = self.old.started + 1 }) }
+        ensures refused { IfErr result (λ _. self.new ≡ self.old) }
+    {
+        self.history.reserve(1)?;
+        put_flight(&mut self.flight, Flight::Waiting(said));
+        self.events_left = MAX_EVENTS;
+        self.started += 1;
+        Ok(())
+    }
+
+    /// One event of a session with a call in flight: one action of its plan, its decision, or its reply.
+    pub fn step(&mut self, session: u8) -> Step
+        requires session { session ≡ 1 }
+        requires in_flight { self.old.in_flight ≢ Nothing }
+        ensures device { ActsOnce result 1 (M.device self.old.memory) (M.device self.new.memory) }
+        ensures event { IsEvent result self.old self.new }
+    {
+        if self.actions_left() > 0 {
+            self.play(session);
+            Step::Played
+        } else if self.is_placed() {
+            Step::Replied(self.reply())
+        } else {
+            self.decide();
+            Step::Decided
+        }
+    }
+
+    /// Whether a session has a call in flight.
+    pub fn in_flight(&self, session: u8) -> bool
+        requires { session ≡ 1 }
+        ensures { (result ≡ false) ↔ (self.now.in_flight ≡ Nothing) }
+    {
+        !is_idle(&self.flight)
+    }
+
+    /// The calls that have their place, in order, each with the reply that it was given or is to be given.
+    pub fn history(&self) -> &[Entry]
+        ensures entries { result.now ≡ self.now.history }
+        ensures legal { IsLegal (logical_state self.now.opened) self.now.history }
+    {
+        self.history.as_slice()
+    }
+
+    pub fn memory(&self) -> &M
+        ensures { result.now ≡ self.now.memory }
+    {
+        &self.memory
+    }
+
+    /// The words as they were when the core was opened.
+    pub fn opened(&self) -> &[u64]
+        ensures { result.now ≡ self.now.opened }
+    {
+        self.opened.as_slice()
+    }
+
+    /// How many actions were played since the core was opened.
+    pub fn played(&self) -> u64
+        ensures { result ≡ self.now.played }
+    {
+        self.played
+    }
+
+    /// How many calls were started since the core was opened.
+    pub fn started(&self) -> u32
+        ensures { result ≡ self.now.started }
+    {
+        self.started
+    }
+
+    // How many actions of the plan in play are left.
+    fn actions_left(&self) -> u32
+        ensures { result ≡ self.now.to_play }
+    {
+        actions_left(&self.plan)
+    }
+
+    // Whether the call in flight has its place in the history.
+    fn is_placed(&self) -> bool
+        ensures { IsTrue result ↔ (self.now.in_flight ≡ Last) }
+    {
+        is_placed(&self.flight)
+    }
+
+    // Plays the next action of the plan.
+    fn play(&mut self, session: u8)
+        requires session { session ≡ 1 }
+        requires to_play { 0 < self.old.to_play }
+        ensures device { ActsOnce Played 1 (M.device self.old.memory) (M.device self.new.memory) }
+        ensures event { IsEvent Played self.old self.new }
+    {
+        let Some(action) = next_action(&mut self.plan) else {
+            unreachable!()
+        };
+        self.memory.act(session, action);
+        place_commit(
+            &mut self.flight,
+            &mut self.history,
+            actions_left(&self.plan),
+        );
+        self.events_left -= 1;
+        self.played += 1;
+    }
+
+    // Decides the call in flight.
+    fn decide(&mut self)
+        requires in_flight { self.old.in_flight ≢ Nothing }
+        requires unplaced { self.old.in_flight ≢ Last }
+        requires to_play { self.old.to_play ≡ 0 }
+        ensures device { self.new.memory ≡ self.old.memory }
+        ensures event { IsEvent Decided self.old self.new }
+    {
+        let said = take_call(&mut self.flight);
+        let decision = decide(
+            *self.history.allocator(),
+            &self.memory,
+            self.transactions,
+            &said,
+        );
+        self.transactions = decision.after;
+        self.plan = decision.plan;
+        let entered = enter(
+            &mut self.history,
+            said,
+            decision.reply,
+            decision.copy,
+            decision.late,
+        );
+        put_flight(&mut self.flight, entered);
+        self.events_left -= 1;
+    }
+
+    // Gives the reply of the call in flight.
+    fn reply(&mut self) -> Reply
+        requires placed { self.old.in_flight ≡ Last }
+        requires to_play { self.old.to_play ≡ 0 }
+        ensures device { self.new.memory ≡ self.old.memory }
+        ensures event { IsEvent (Replied result) self.old self.new }
+    {
+        let reply = take_reply(&mut self.flight);
+        mark_answered(&mut self.history);
+        self.events_left -= 1;
+        reply
+    }
+}
