@@ -7,6 +7,8 @@ mod layout;
 mod plans;
 mod stage;
 mod store_core;
+#[cfg(test)]
+mod tests;
 mod transactions;
 
 pub use flight::Step;
