@@ -31,7 +31,7 @@ abbrev pub standing : Reply → Transactions → Decision
 standing given now = record { reply = given; copy = given; plan = None; after = now; late = None }
 
 pub stands : {E : Type 0} (words : List ℕ) (now : Transactions) (said : Call) (given : Reply) (made : Result Decision E) → IfOk made (λ decision. decision ≡ standing given now)
-    → IsDecided words now said given [] now → IsPlacedLate None said given [] → IfOk made (λ decision. IsDecision words now said decision)
+    → IsDecided words now said given [] now → IsPlacedLate words None said given [] → IfOk made (λ decision. IsDecision words now said decision)
 stands words now said given (Ok decision) is decided late =
     subst (λ (d : Decision). IsDecision words now said d) (sym is) (record { copied = refl; decided = decided; late = late })
 stands words now said given (Err error) is decided late = tt

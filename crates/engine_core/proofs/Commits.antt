@@ -17,9 +17,9 @@ use Rattle.pm_model.proofs.Alone.{length-words_after}
 use Rattle.txn_object.specs.Entries.{entry_word}
 use Rattle.txn_object.specs.Object.{clear_part, entry_clears, retire_parts}
 use Rattle.engine_core.specs.Stage.{high_at, born_at, ended_at, value_at}
-use Rattle.engine_core.specs.StagePlans.{created_entry, stamp_part, commit_parts, close_parts}
+use Rattle.engine_core.specs.StagePlans.{created_entry, stamp_part, commit_late, commit_parts, close_parts}
 use Rattle.engine_core.specs.StageRules.{IsStage}
-use Rattle.engine_core.specs.Decided.{IsDecided}
+use Rattle.engine_core.specs.Decided.{IsCommitPlan, IsDecided}
 use Rattle.engine_core.specs.LogicalState.{commit_of, commits_in, created_row, key_of, rows_from, rows_where, state_by, state_of}
 use Rattle.engine_core.specs.declared.transactions.Transactions.{Transactions}
 use Rattle.engine_core.specs.declared.transactions.Running.{Running}
@@ -275,6 +275,17 @@ module _ (words : List ℕ) (begun number rows high last : ℕ) (stage : IsStage
         short = short;
         begun = omega arith;
       }
+
+  -- its plan is that of a commit with the next number
+  pub commit-planned : (commit late : ℕ) (actions : List Action) → commit ≡ last + 1 → actions ≡ plan_of (commit_parts high rows commit) → late ≡ length (plan_of (commit_late rows commit)) → IsCommitPlan words commit late actions
+  commit-planned commit late actions is_commit is_actions is_late = record {
+    first = high;
+    count = rows;
+    plan = subst (IsPlan (length words)) (sym (ap (commit_parts high rows) is_commit ∙ commit_parts-five high rows (last + 1))) commit-plan;
+    plan_is = is_actions;
+    late_is = is_late;
+    next = omega (arith, is_last, is_commit);
+  }
 
 -- ── the end of a transaction that wrote nothing ──
 

@@ -72,6 +72,7 @@ kept-at_rest segments some = record {
   represents = logical-idle (stage_words segments) (λ object lt. stage-zero segments (state_at object) some (omega arith) (omega (arith, lt)));
   stage = stage-formatted segments some;
   under_way = under_way-rests (stage_words segments);
+  commit = tt;
   answers = All-nil (λ entry. entry.answered ≡ true);
   alone = tt;
   count = refl;

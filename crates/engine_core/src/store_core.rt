@@ -98,7 +98,7 @@ impl<M: Memory> Core<M> {
         requires session { session ≡ 1 }
         requires in_flight { self.old.in_flight ≢ Nothing }
         ensures device { ActsOnce result 1 (M.device self.old.memory) (M.device self.new.memory) }
-        ensures event { IsEvent result self.old self.new }
+        ensures event { IsEvent result (M.device self.old.memory) (M.device self.new.memory) self.old self.new }
     {
         if self.actions_left() > 0 {
             self.play(session);
@@ -173,7 +173,7 @@ impl<M: Memory> Core<M> {
         requires session { session ≡ 1 }
         requires to_play { 0 < self.old.to_play }
         ensures device { ActsOnce Played 1 (M.device self.old.memory) (M.device self.new.memory) }
-        ensures event { IsEvent Played self.old self.new }
+        ensures event { IsEvent Played (M.device self.old.memory) (M.device self.new.memory) self.old self.new }
     {
         let Some(action) = next_action(&mut self.plan) else {
             unreachable!()
@@ -194,7 +194,7 @@ impl<M: Memory> Core<M> {
         requires unplaced { self.old.in_flight ≢ Last }
         requires to_play { self.old.to_play ≡ 0 }
         ensures device { self.new.memory ≡ self.old.memory }
-        ensures event { IsEvent Decided self.old self.new }
+        ensures event { IsEvent Decided (M.device self.old.memory) (M.device self.new.memory) self.old self.new }
     {
         let said = take_call(&mut self.flight);
         let decision = decide(
@@ -221,7 +221,7 @@ impl<M: Memory> Core<M> {
         requires placed { self.old.in_flight ≡ Last }
         requires to_play { self.old.to_play ≡ 0 }
         ensures device { self.new.memory ≡ self.old.memory }
-        ensures event { IsEvent (Replied result) self.old self.new }
+        ensures event { IsEvent (Replied result) (M.device self.old.memory) (M.device self.new.memory) self.old self.new }
     {
         let reply = take_reply(&mut self.flight);
         mark_answered(&mut self.history);
