@@ -109,6 +109,12 @@ IsAnswered (flight.Waiting said) history = All (λ entry. entry.answered ≡ tru
 IsAnswered (flight.Committing number late) history = All (λ entry. entry.answered ≡ true) history
 IsAnswered (flight.Placed given) history = EndsUnanswered given history
 
+-- Each entry but the last is answered, and the last is unanswered exactly where its call is in flight.
+abbrev pub IsAnsweredButFor : InFlight → List Entry → Type 0
+IsAnsweredButFor Nothing history = All (λ entry. entry.answered ≡ true) history
+IsAnsweredButFor (Unplaced said) history = All (λ entry. entry.answered ≡ true) history
+IsAnsweredButFor Last history = (given : Reply) × EndsUnanswered given history
+
 -- what a step does to the device: one action of the session, or nothing
 abbrev pub ActsOnce : Step → ℕ → Device → Device → Type 0
 ActsOnce Played session before after = (action : Action) × (after ≡ acted session action before)

@@ -2,7 +2,7 @@
 ghost use Rattle.mv_model.specs.History.{IsLegal};
 ghost use Rattle.engine_core.specs.LogicalState.{logical_state};
 ghost use Rattle.std.specs.Prelude.{false, ◌≡◌, ◌≢◌, ◌+◌, ◌-◌, ◌^◌, ◌<◌, [], IfOk, IfErr, IsTrue, ◌↔◌};
-ghost use Rattle.engine_core.specs.CoreState.{CoreState, ActsOnce, IsEvent, IsFormatted, Last, Nothing, Unplaced};
+ghost use Rattle.engine_core.specs.CoreState.{CoreState, ActsOnce, IsAnsweredButFor, IsEvent, IsFormatted, Last, Nothing, Unplaced};
 ghost use Rattle.engine_core.specs.declared.flight.Step.TheVariants.{Decided, Played, Replied};
 ghost use Rattle.engine_core.specs.Served.{is_served};
 
@@ -119,10 +119,12 @@ impl<M: Memory> Core<M> {
         !is_idle(&self.flight)
     }
 
-    /// The calls that have their place, in order, each with the reply that it was given or is to be given.
+    /// The calls that have their place, in order, each with the reply that it was given or is to be given. Only the last
+    /// of them may still wait for its reply.
     pub fn history(&self) -> &[Entry]
         ensures entries { result.now ≡ self.now.history }
         ensures legal { IsLegal (logical_state self.now.opened) self.now.history }
+        ensures answered { IsAnsweredButFor self.now.in_flight self.now.history }
     {
         self.history.as_slice()
     }
