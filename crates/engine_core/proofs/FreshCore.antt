@@ -12,7 +12,7 @@ use Rattle.engine_core.specs.Stage.{high_at, born_at, ended_at, stage_word, stag
 use Rattle.engine_core.specs.StageRules.{IsStage}
 use Rattle.engine_core.specs.CoreState.{IsFormatted}
 use Rattle.engine_core.specs.Kept.{IsKept, IsUnderWay}
-use Rattle.engine_core.specs.LogicalState.{commit_count, commits_in, greatest, logical_state, next_row, of_open, past_entry, state_of, table_of}
+use Rattle.engine_core.specs.LogicalState.{commit_count, commits_in, greatest, logical_state, next_row, of_open, one_empty_table, past_entry, state_of, table_of}
 use Rattle.engine_core.specs.declared.flight.Flight.TheVariants as flight
 use Rattle.engine_core.proofs.StageImage.{get_or-stage_words, length-stage_words}
 use Rattle.engine_core.proofs.Steps.{under_way-rests}
@@ -64,6 +64,20 @@ stage-formatted segments some =
       free = λ nth low lt. stage-zero segments (entry_at 0 nth) some (omega arith) (omega (arith, lt));
       others = λ object low lt. stage-zero segments (state_at object) some (omega arith) (omega (arith, lt));
     }
+
+state-at_rest : (segments : ℕ) → 1 ≤ segments → logical_state (stage_words segments) ≡ one_empty_table
+state-at_rest segments some =
+    let words = stage_words segments in
+    let high = stage-zero segments high_at some (omega arith) (omega arith) in
+    let last = stage-zero segments last_at some (omega arith) (omega arith) in
+    logical-idle words (λ object lt. stage-zero segments (state_at object) some (omega arith) (omega (arith, lt)))
+    ∙ ap (λ (n : ℕ). record { tables = table_of (n + 0) ∷ []; commits = commits_in words (get_or words last_at 0); begun = 0; running = all_idle }) high
+    ∙ ap (λ (n : ℕ). record { tables = table_of 0 ∷ []; commits = commits_in words n; begun = 0; running = all_idle }) last
+
+-- a formatted image stands for a store of one empty table
+pub state-formatted : (d : Device) (opened : List ℕ) → IsFormatted d → opened ≡ d.cached → logical_state opened ≡ one_empty_table
+state-formatted d opened formatted same =
+    ap logical_state (same ∙ ap (λ (x : Device). x.cached) formatted.rests) ∙ state-at_rest formatted.segments formatted.one_or_more
 
 kept-at_rest : (segments : ℕ) → 1 ≤ segments → IsKept (at_rest (stage_words segments)) (stage_words segments) [] (record { begun = 0; running = None }) [] flight.Idle 0 0 0
 kept-at_rest segments some = record {

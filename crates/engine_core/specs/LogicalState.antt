@@ -84,6 +84,10 @@ logical_state words = record {
   running = all_idle;
 }
 
+-- a store of the one table, in which no commit has created a row
+abbrev pub one_empty_table : State
+one_empty_table = record { tables = table_of 0 ∷ []; commits = []; begun = 0; running = all_idle }
+
 -- ── the open transaction ──
 
 -- the number is among so many from the first on

@@ -1,6 +1,6 @@
 // A session that steps over the words of a device, one action or one decision at a time.
 ghost use Rattle.mv_model.specs.History.{IsLegal};
-ghost use Rattle.engine_core.specs.LogicalState.{logical_state};
+ghost use Rattle.engine_core.specs.LogicalState.{logical_state, one_empty_table};
 ghost use Rattle.std.specs.Prelude.{false, ◌≡◌, ◌≢◌, ◌+◌, ◌-◌, ◌^◌, ◌<◌, [], IfOk, IfErr, IsTrue, ◌↔◌};
 ghost use Rattle.engine_core.specs.CoreState.{CoreState, ActsOnce, IsAnsweredButFor, IsEvent, IsFormatted, Last, Nothing, Unplaced};
 ghost use Rattle.engine_core.specs.declared.flight.Step.TheVariants.{Decided, Played, Replied};
@@ -55,6 +55,7 @@ impl<M: Memory + Drop> Core<M> {
         requires { IsFormatted (M.device memory) }
         ensures memory { IfOk result (λ core. core.memory ≡ memory) }
         ensures opened { IfOk result (λ core. core.opened ≡ (M.device memory).cached) }
+        ensures state { IfOk result (λ core. logical_state core.opened ≡ one_empty_table) }
         ensures history { IfOk result (λ core. core.history ≡ []) }
         ensures in_flight { IfOk result (λ core. core.in_flight ≡ Nothing) }
         ensures played { IfOk result (λ core. core.played ≡ 0) }
