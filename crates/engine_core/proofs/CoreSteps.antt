@@ -1,10 +1,9 @@
 -- What the functions of a core rest on.
-use Rattle.std.proofs.Common.{◌≡◌, ◌≢◌, ◌⊎◌, inl, inr, ⊎_elim, ℕ, zero, suc, ◌+◌, ◌-◌, ◌<◌, ◌≤◌, ◌∙◌, List, [], ◌∷◌, ◌++◌, length, get_or, set, refl, ap, sym, subst, arith}
+use Rattle.std.proofs.Common.{◌≡◌, ◌≢◌, ℕ, suc, ◌-◌, ◌<◌, ◌≤◌, ◌∙◌, List, [], ◌∷◌, ◌++◌, length, get_or, set, refl, ap, sym, subst, arith}
 use Rattle.std.proofs.lemmas.List.{length-append}
 use Rattle.mv_model.specs.declared.reply.Entry.{Entry}
 use Rattle.pm_model.specs.declared.action.Action.{Action}
-use Rattle.pm_model.specs.Device.{Device}
-use Rattle.engine_core.specs.CoreState.{InFlight, Nothing, Unplaced, Last, IsAnswered, IsAnsweredButFor, IsWaiting, answered, in_flight_of}
+use Rattle.engine_core.specs.CoreState.{Nothing, Last, IsAnswered, IsAnsweredButFor, IsWaiting, in_flight_of}
 use Rattle.engine_core.specs.Kept.{IsBounded}
 use Rattle.engine_core.specs.declared.flight.Flight.{Flight}
 use Rattle.engine_core.specs.declared.flight.Flight.TheVariants as flight

@@ -1,17 +1,15 @@
 -- A core over a formatted stage image.
-use Rattle.std.proofs.Common.{◌≡◌, ◌≢◌, ◌⊎◌, inl, inr, ℕ, zero, suc, ◌+◌, ◌*◌, ◌%◌, ◌<◌, ◌≤◌, ◌∙◌, max, Bool, true, false, cond, eqb, List, [], ◌∷◌, length, get_or, Option, None, refl, ap, sym, subst, arith}
-use Rattle.std.specs.Prelude.{All}
+use Rattle.std.proofs.Common.{◌≡◌, inl, ℕ, zero, suc, ◌+◌, ◌%◌, ◌<◌, ◌≤◌, ◌∙◌, true, eqb, List, [], ◌∷◌, get_or, None, refl, ap, arith}
 use Rattle.std.proofs.lemmas.Bool.{cond-false, ne_eqb, or_from, le-ltb}
 use Rattle.std.proofs.lemmas.List.Elements.{All-nil}
-use Rattle.mv_model.specs.State.{State, all_idle}
-use Rattle.mv_model.specs.declared.reply.Entry.{Entry}
+use Rattle.mv_model.specs.State.{all_idle}
 use Rattle.pm_model.specs.Fixed.{last_at, state_at, commit_word_at, entry_at}
 use Rattle.pm_model.specs.Device.{Device}
 use Rattle.pm_model.specs.Plans.{at_rest}
-use Rattle.engine_core.specs.Stage.{high_at, born_at, ended_at, stage_word, stage_words}
+use Rattle.engine_core.specs.Stage.{high_at, born_at, ended_at, stage_words}
 use Rattle.engine_core.specs.StageRules.{IsStage}
 use Rattle.engine_core.specs.CoreState.{IsFormatted}
-use Rattle.engine_core.specs.Kept.{IsKept, IsUnderWay}
+use Rattle.engine_core.specs.Kept.{IsKept}
 use Rattle.engine_core.specs.LogicalState.{commit_count, commits_in, greatest, logical_state, next_row, of_open, one_empty_table, past_entry, state_of, table_of}
 use Rattle.engine_core.specs.declared.flight.Flight.TheVariants as flight
 use Rattle.engine_core.proofs.StageImage.{get_or-stage_words, length-stage_words}

@@ -1,17 +1,16 @@
 -- What the steps of a core do to the call in flight and to the history.
-use Rattle.std.proofs.Common.{◌≡◌, ◌≢◌, ◌⊎◌, inl, inr, ℕ, ◌+◌, ◌<◌, ◌≤◌, ◌∙◌, List, [], ◌∷◌, ◌++◌, length, Option, None, Some, refl, ap, sym, subst, arith}
+use Rattle.std.proofs.Common.{◌≡◌, ◌⊎◌, inl, inr, ℕ, ◌+◌, ◌∙◌, List, [], ◌∷◌, ◌++◌, length, Option, None, Some, refl, ap, sym}
 use Rattle.mv_model.specs.declared.call.Call.{Call}
 use Rattle.mv_model.specs.declared.call.Call.TheVariants as call
 use Rattle.mv_model.specs.declared.reply.Reply.{Reply}
 use Rattle.mv_model.specs.declared.reply.Reply.TheVariants as reply
 use Rattle.mv_model.specs.declared.reply.Entry.{Entry}
-use Rattle.mv_model.specs.State.{State}
 use Rattle.mv_model.specs.History.{state_after}
 use Rattle.pm_model.specs.declared.action.Action.{Action}
 use Rattle.pm_model.specs.Device.{Device, acted}
 use Rattle.engine_core.specs.Decided.{IsFullWhere, IsPlacedLate}
 use Rattle.engine_core.specs.LogicalState.{logical_state}
-use Rattle.engine_core.specs.CoreState.{CoreState, EndsUnanswered, GetsEntryAtDecision, GetsNumber, GetsReply, InFlight, IsAtFence, IsEntered, IsNumbered, IsPlacedAt, Last, Nothing, Stays, Unplaced, answered, in_flight_of, pending, unanswered}
+use Rattle.engine_core.specs.CoreState.{CoreState, EndsUnanswered, GetsEntryAtDecision, GetsNumber, GetsReply, IsEntered, IsNumbered, IsPlacedAt, Stays, Unplaced, answered, in_flight_of, pending, unanswered}
 use Rattle.engine_core.specs.Kept.{IsOnItsWay}
 use Rattle.engine_core.proofs.Placing.{placed-at}
 use Rattle.engine_core.specs.declared.decision.Late.{Late}

@@ -1,6 +1,6 @@
 -- Each event keeps what a core keeps.
-use Rattle.std.proofs.Common.{◌≡◌, ◌≢◌, ◌⊎◌, inl, inr, ⊎_elim, ℕ, zero, suc, ◌+◌, ◌*◌, ◌<◌, ◌≤◌, ◌∙◌, Bool, true, false, List, [], ◌∷◌, ◌++◌, length, get_or, Option, None, Some, refl, ap, sym, subst, append-nil, arith}
-use Rattle.std.specs.Prelude.{IsTrue, All}
+use Rattle.std.proofs.Common.{◌≡◌, ◌≢◌, inl, inr, ⊎_elim, ℕ, ◌+◌, ◌<◌, ◌≤◌, ◌∙◌, Bool, true, false, List, [], ◌∷◌, ◌++◌, length, get_or, Option, None, Some, refl, ap, sym, subst, append-nil, arith}
+use Rattle.std.specs.Prelude.{IsTrue}
 use Rattle.std.proofs.lemmas.Bool.{cases_Bool, cond-true, cond-false}
 use Rattle.std.proofs.lemmas.List.{length-append}
 use Rattle.std.proofs.lemmas.List.Elements.{All-append, All-cons, All-nil}
@@ -14,16 +14,14 @@ use Rattle.mv_model.specs.History.{IsAllowed, IsLegal, state_after}
 use Rattle.mv_model.specs.Next.{next}
 use Rattle.pm_model.specs.declared.action.Action.{Action}
 use Rattle.pm_model.specs.declared.action.Action.TheVariants.{Store, Flush, Fence, Punch}
-use Rattle.pm_model.specs.Device.{Device, acted, CanAct, IsClean, cached_after, choose_by, writes}
-use Rattle.pm_model.specs.Plans.{Play, Part, IsPlayable, IsPlaying, IsPlan, MayBegin, HasEnded, words_after, plan_of, footprint, at_rest}
+use Rattle.pm_model.specs.Device.{Device, acted, CanAct, IsClean, writes}
+use Rattle.pm_model.specs.Plans.{Play, Part, IsPlaying, IsPlan, words_after, plan_of, footprint, at_rest}
 use Rattle.pm_model.proofs.Words.{cached_after-kept, get_or-choose_by}
-use Rattle.pm_model.proofs.Alone.{length-words_after, IsPlan-size}
 use Rattle.pm_model.proofs.PlanLaw.{plan_begins, plan_can_act, plan_goes_on, plan_owns, plan_ends}
-use Rattle.engine_core.specs.StageRules.{IsStage}
 use Rattle.engine_core.specs.Decided.{IsCommitPlan, IsDecided, IsPlacedLate}
 use Rattle.engine_core.specs.LogicalState.{logical_state, state_of}
-use Rattle.engine_core.specs.CoreState.{EndsUnanswered, IsAnswered, IsEntered, IsOfOne, IsPlacedAt, answered, due, pending, unanswered}
-use Rattle.engine_core.specs.Kept.{IsBounded, IsKept, IsUnderWay}
+use Rattle.engine_core.specs.CoreState.{IsEntered, IsOfOne, IsPlacedAt, answered, unanswered}
+use Rattle.engine_core.specs.Kept.{IsKept, IsUnderWay}
 use Rattle.engine_core.specs.Served.{is_served}
 use Rattle.engine_core.specs.declared.decision.Late.{Late}
 use Rattle.engine_core.specs.declared.flight.Flight.{Flight}

@@ -1,11 +1,10 @@
 -- What contracts see of a core.
-use Rattle.std.specs.Prelude.{◌≡◌, ◌≢◌, ◌⊎◌, ℕ, Option, Some, None, ◌+◌, ◌*◌, ◌<◌, ◌≤◌, true, false, IsTrue, List, [], ◌∷◌, ◌++◌, length, slice_index, All}
+use Rattle.std.specs.Prelude.{◌≡◌, ◌≢◌, ◌⊎◌, ℕ, Option, Some, None, ◌+◌, ◌≤◌, true, false, List, [], ◌∷◌, ◌++◌, length, slice_index, All}
 use Rattle.mv_model.specs.declared.call.Call.{Call}
 use Rattle.mv_model.specs.declared.call.Call.TheVariants as call
 use Rattle.mv_model.specs.declared.reply.Reply.{Reply}
 use Rattle.mv_model.specs.declared.reply.Reply.TheVariants as reply
 use Rattle.mv_model.specs.declared.reply.Entry.{Entry}
-use Rattle.mv_model.specs.State.{State}
 use Rattle.mv_model.specs.History.{state_after}
 use Rattle.pm_model.specs.declared.action.Action.{Action}
 use Rattle.pm_model.specs.declared.action.Action.TheVariants.{Fence}

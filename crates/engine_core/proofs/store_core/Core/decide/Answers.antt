@@ -1,4 +1,4 @@
-use Rattle.std.proofs.Common.{◌≡◌, ◌≢◌, ◌∙◌, ◌+◌, ◌-◌, ◌<◌, ◌≤◌, ℕ, List, [], length, ap, sym, subst, refl, arith}
+use Rattle.std.proofs.Common.{◌≡◌, ◌≢◌, ◌+◌, ◌-◌, List, length, ap, sym, subst, refl, arith}
 use Rattle.pm_model.specs.declared.action.Action.{Action}
 use Rattle.mv_model.specs.State.{State}
 use Rattle.engine_core.specs.CoreState.{Moves, Nothing, in_flight_of, pending}

@@ -1,4 +1,4 @@
-use Rattle.std.proofs.Common.{◌≡◌, ◌∙◌, ◌+◌, ◌-◌, ◌<◌, ◌≤◌, ℕ, length, ap, subst, refl, arith}
+use Rattle.std.proofs.Common.{◌≡◌, ◌∙◌, ◌+◌, ◌-◌, ◌<◌, ℕ, length, ap, subst, refl, arith}
 use Rattle.pm_model.specs.Device.{acted}
 use Rattle.engine_core.specs.CoreState.{IsPlacedAt}
 use Rattle.engine_core.specs.Decided.{left_of}
