@@ -281,6 +281,7 @@ module _ (words : List ℕ) (begun number rows high last : ℕ) (stage : IsStage
     plan_is = is_actions;
     late_is = is_late;
     next = omega (arith, is_last, is_commit);
+    unset = stage.commit_word;
   }
 
 -- ── the end of a transaction that wrote nothing ──

@@ -1,23 +1,25 @@
 -- A commit that waits for its place gets it at the fence that makes its commit word durable.
-use Rattle.std.proofs.Common.{◌≡◌, inl, ⊎_elim, ℕ, zero, suc, ◌+◌, ◌-◌, ◌<◌, ◌∙◌, true, false, ltb, List, [], ◌∷◌, ◌++◌, length, get_or, take, drop, append_assoc, refl, ap, sym, subst, arith}
-use Rattle.std.proofs.lemmas.Bool.{cases_Bool, cond-true, cond-false, le-ltb, lt-ltb, both_ways}
+use Rattle.std.proofs.Common.{◌≡◌, inl, ⊎_elim, ℕ, zero, suc, ◌+◌, ◌-◌, ◌<◌, ◌≤◌, ◌∙◌, Bool, true, false, cond, ltb, List, [], ◌∷◌, ◌++◌, length, get_or, map, take, drop, append_assoc, refl, ap, sym, subst, arith}
+use Rattle.std.proofs.lemmas.Bool.{cases_Bool, cond-true, cond-false, le-ltb, lt-ltb, both_ways, or_parts, or_from}
 use Rattle.std.proofs.lemmas.Grind.{flat_map-append}
-use Rattle.std.proofs.lemmas.List.{length-append, length-drop}
+use Rattle.std.proofs.lemmas.List.{length-append, length-drop, take-append-le}
 use Rattle.std.proofs.Math.Seq.{take-append_seam}
 use Rattle.pm_model.specs.declared.action.Action.{Action}
-use Rattle.pm_model.specs.declared.action.Action.TheVariants.{Flush, Fence}
-use Rattle.pm_model.specs.Device.{Device, acted, IsClean}
+use Rattle.pm_model.specs.declared.action.Action.TheVariants.{Store, Flush, Fence, Punch}
+use Rattle.pm_model.specs.Device.{Device, acted, writes, IsClean}
+use Rattle.pm_model.specs.declared.place.Place.{Place}
+use Rattle.pm_model.proofs.Words.{get_or-choose_by}
 use Rattle.pm_model.specs.Fixed.{last_at, commit_word_at}
-use Rattle.pm_model.specs.Plans.{Part, Play, IsPlaying, store, one_store, words_after, footprint, part_actions, plan_of, settled, reached, finished, IsPlan}
+use Rattle.pm_model.specs.Plans.{Part, Play, IsPlaying, store, one_store, words_after, footprint, part_actions, plan_of, settled, reached, finished, IsPlan, lines_of, part_end}
 use Rattle.pm_model.proofs.Alone.{length-words_after}
-use Rattle.pm_model.proofs.PlanLaw.{footprint-append, plan_begins, plan_cached, plan_durable, plan_goes_on}
+use Rattle.pm_model.proofs.PlanLaw.{footprint-append, plan_begins, plan_cached, plan_durable, plan_goes_on, words_after-kept, footprint-take}
 use Rattle.txn_object.proofs.Clears.{length-part_actions}
 use Rattle.engine_core.specs.CoreState.{IsAtFence}
 use Rattle.engine_core.specs.Decided.{IsCommitPlan}
 use Rattle.engine_core.specs.Kept.{IsCommitting}
 use Rattle.engine_core.specs.Stage.{high_at, born_at}
 use Rattle.engine_core.specs.StagePlans.{stamp_part, commit_early, commit_late, commit_parts}
-use Rattle.engine_core.proofs.Stores.{words_after-plan, get-stored, get-beside, get-run_beside}
+use Rattle.engine_core.proofs.Stores.{words_after-plan, get-stored, get-beside, get-run_beside, run-misses}
 
 -- ── at the end of some whole parts ──
 
@@ -53,7 +55,31 @@ footprint-right xs ys w hit = ⊎_elim (λ (yes : footprint (xs ++ ys) w ≡ tru
     (λ (out : footprint (xs ++ ys) w ≡ false). absurd (both_ways (footprint ys w) (footprint-append xs ys w out).1 hit))
     (cases_Bool (footprint (xs ++ ys) w))
 
+-- Where more are left, a fence comes before all three.
+before_seam : (xs ys rest : List Action) (n : ℕ) (place : Place) (value line : ℕ) → drop n (xs ++ Store place value ∷ Flush line ∷ Fence ∷ ys) ≡ Fence ∷ rest → length ys < length rest → n ≤ length xs
+before_seam [] ys rest zero place value line left more = omega arith
+before_seam [] ys rest (suc zero) place value line left more = absurd (cc)
+before_seam [] ys rest (suc (suc zero)) place value line left more = let all = ap length left in absurd (omega (arith, all, more))
+before_seam [] ys rest (suc (suc (suc n))) place value line left more = let all = ap length left in let few = length-drop n ys in absurd (omega (arith, all, few, more))
+before_seam (x ∷ xs) ys rest zero place value line left more = omega arith
+before_seam (x ∷ xs) ys rest (suc n) place value line left more = let le = before_seam xs ys rest n place value line left more in omega (arith, le)
+
 -- ── the plan of a commit ──
+
+-- its stamps leave the commit word
+stamps_miss : (first count number : ℕ) → footprint (part_actions (stamp_part first count number)) (commit_word_at 0) ≡ false
+stamps_miss first count number =
+    footprint-both (stamp_part first count number) (part_end (stamp_part first count number)) (commit_word_at 0)
+    (run-misses number born_at 2048 (λ k. refl) high_at (first + count) first count (commit_word_at 0) (inl (omega arith)) (λ e. omega (arith, e)))
+    (flushes_miss (lines_of (stamp_part first count number)) (commit_word_at 0))
+  where
+    footprint-both : (xs ys : List Action) (w : ℕ) → footprint xs w ≡ false → footprint ys w ≡ false → footprint (xs ++ ys) w ≡ false
+    footprint-both [] ys w a b = b
+    footprint-both (x ∷ xs) ys w a b = let parts = or_parts (writes x w) (footprint xs w) a in or_from (writes x w) (footprint (xs ++ ys) w) parts.0 (footprint-both xs ys w parts.1 b)
+
+    flushes_miss : (lines : List ℕ) (w : ℕ) → footprint (map (λ line. Flush line) lines ++ Fence ∷ []) w ≡ false
+    flushes_miss [] w = refl
+    flushes_miss (line ∷ lines) w = flushes_miss lines w
 
 -- its commit word and the last commit number are its own
 writes_word : (first count number : ℕ) → footprint (plan_of (commit_parts first count number)) (commit_word_at 0) ≡ true
@@ -93,6 +119,8 @@ committing-begins number late d actions clean size planned =
       parts = refl;
       late_is = planned.late_is;
       next = planned.next;
+      unset = planned.unset;
+      not_yet = sym (clean (commit_word_at 0)) ∙ planned.unset;
     }
 
 module _ (number late : ℕ) (d after : Device) (left rest : List Action) (action : Action) (is : left ≡ action ∷ rest) (acts : after ≡ acted 1 action d) where
@@ -102,8 +130,37 @@ module _ (number late : ℕ) (d after : Device) (left rest : List Action) (actio
       subst (λ (x : Device). IsPlaying way.play (way.played + 1) rest x) (sym own)
       (plan_goes_on way.play way.played d action rest (subst (λ (l : List Action). IsPlaying way.play way.played l d) is way.playing))
 
-  pub committing-plays : IsCommitting number late left d → IsCommitting number late rest after
-  committing-plays way = record {
+  -- before its last fence the commit word isn't durable
+  not_durable : (one : Action) → left ≡ one ∷ rest → after ≡ acted 1 one d → late < length rest → (way : IsCommitting number late left d) → get_or after.durable (commit_word_at 0) 0 ≡ 0
+  not_durable (Store place value) first by far way = ap (λ (x : Device). get_or x.durable (commit_word_at 0) 0) by ∙ way.not_yet
+  not_durable (Flush line) first by far way = ap (λ (x : Device). get_or x.durable (commit_word_at 0) 0) by ∙ way.not_yet
+  not_durable (Punch page) first by far way = ap (λ (x : Device). get_or x.durable (commit_word_at 0) 0) by ∙ way.not_yet
+  not_durable Fence first by far way =
+      let stamps = part_actions (stamp_part way.first way.count number) in
+      let tail = plan_of (commit_late way.count number) in
+      let all : drop way.played (stamps ++ store (commit_word_at 0) number ∷ Flush 128 ∷ Fence ∷ tail) ≡ Fence ∷ rest =
+      ap (λ (ps : List Part). drop way.played (plan_of ps)) (sym way.parts) ∙ way.playing.rest ∙ first in
+      let late_is = way.late_is in
+      let within = before_seam stamps tail rest way.played (record { 0 = commit_word_at 0 }) number 128 all (omega (arith, far, late_is)) in
+      let own_word = way.playing.playable.within (commit_word_at 0) (ap (λ (ps : List Part). footprint (plan_of ps) (commit_word_at 0)) way.parts ∙ writes_word way.first way.count number) in
+      let short : take way.played (plan_of way.play.parts) ≡ take way.played stamps =
+      ap (λ (ps : List Part). take way.played (plan_of ps)) way.parts
+      ∙ take-append-le way.played stamps (store (commit_word_at 0) number ∷ Flush 128 ∷ Fence ∷ tail) within in
+      let cached : get_or d.cached (commit_word_at 0) 0 ≡ 0 =
+      plan_cached way.play way.played d left way.playing (commit_word_at 0) own_word
+      ∙ ap (λ (xs : List Action). get_or (words_after xs way.play.start) (commit_word_at 0) 0) short
+      ∙ words_after-kept (take way.played stamps) way.play.start (commit_word_at 0) (footprint-take way.played stamps (commit_word_at 0) (stamps_miss way.first way.count number))
+      ∙ way.unset in
+      let word = get_or-choose_by (d.flushed 1) d.cached d.durable (way.playing.looks.cached_size ∙ sym way.playing.looks.durable_size) (commit_word_at 0) in
+      ap (λ (x : Device). get_or x.durable (commit_word_at 0) 0) by ∙ word
+      ∙ either (d.flushed 1 (commit_word_at 0)) (get_or d.cached (commit_word_at 0) 0) (get_or d.durable (commit_word_at 0) 0) cached way.not_yet
+    where
+      either : (b : Bool) (x y : ℕ) → x ≡ 0 → y ≡ 0 → cond b x y ≡ 0
+      either true x y p q = p
+      either false x y p q = q
+
+  pub committing-plays : late < length rest → IsCommitting number late left d → IsCommitting number late rest after
+  committing-plays far way = record {
     play = way.play;
     played = way.played + 1;
     session = way.session;
@@ -113,6 +170,8 @@ module _ (number late : ℕ) (d after : Device) (left rest : List Action) (actio
     parts = way.parts;
     late_is = way.late_is;
     next = way.next;
+    unset = way.unset;
+    not_yet = not_durable action is acts far way;
   }
 
   pub placed-at : late ≡ length rest → IsCommitting number late left d → IsAtFence number d after
@@ -145,6 +204,7 @@ module _ (number late : ℕ) (d after : Device) (left rest : List Action) (actio
       let next = way.next in
       record {
         fence = acts ∙ ap (λ (a : Action). acted 1 a d) seam.0;
+        was = way.not_yet;
         commit_word = ⊎_elim
             (λ e. e ∙ ap (λ (l : List ℕ). get_or l (commit_word_at 0) 0) is_settled ∙ word)
             (λ e. e ∙ ap (λ (l : List ℕ). get_or l (commit_word_at 0) 0) is_reached ∙ word)

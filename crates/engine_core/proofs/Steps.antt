@@ -138,7 +138,7 @@ module _ (opened : List ℕ) where
         represents = kept.represents ∙ ap (λ (ws : List ℕ). state_of ws now) (sym words);
         stage = rw words kept.stage;
         under_way = under_way-plays d after left rest action is acts kept.under_way;
-        commit = committing-plays number late d after left rest action is acts kept.commit;
+        commit = committing-plays number late d after left rest action is acts (let below = kept.bounded.0 in let size = ap length is in omega (arith, below, size, apart)) kept.commit;
         answers = kept.answers;
         alone = kept.alone;
         count = kept.count;

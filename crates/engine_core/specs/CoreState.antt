@@ -149,6 +149,7 @@ pub record GetsEntryAtDecision {M : Type 0} (before after : CoreState M) : Type 
 -- one before.
 pub record IsAtFence (number : ℕ) (before after : Device) : Type 0 where
   pub fence : after ≡ acted 1 Fence before
+  pub was : slice_index before.durable (commit_word_at 0) ≡ 0
   pub commit_word : slice_index after.durable (commit_word_at 0) ≡ number
   pub last : slice_index after.cached last_at + 1 ≡ number
 

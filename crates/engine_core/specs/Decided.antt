@@ -11,7 +11,7 @@ use Rattle.mv_model.specs.History.{IsAllowed}
 use Rattle.mv_model.specs.Next.{next}
 use Rattle.pm_model.specs.declared.action.Action.{Action}
 use Rattle.pm_model.specs.PlanState.{PlanState}
-use Rattle.pm_model.specs.Fixed.{last_at}
+use Rattle.pm_model.specs.Fixed.{last_at, commit_word_at}
 use Rattle.pm_model.specs.Plans.{Part, plan_of, words_after, IsPlan}
 use Rattle.engine_core.specs.StageRules.{IsStage}
 use Rattle.engine_core.specs.LogicalState.{state_of}
@@ -58,6 +58,7 @@ pub record IsCommitPlan (words : List ℕ) (number late : ℕ) (actions : List A
   pub plan_is : actions ≡ plan_of (commit_parts first count number)
   pub late_is : late ≡ length (plan_of (commit_late count number))
   pub next : slice_index words last_at + 1 ≡ number
+  pub unset : slice_index words (commit_word_at 0) ≡ 0
 
 -- A commit gets its place in the history, and its number, at the fence that makes its commit word durable; every other
 -- call at its decision.

@@ -5,7 +5,7 @@ use Rattle.mv_model.specs.History.{IsLegal, state_after}
 use Rattle.pm_model.specs.declared.action.Action.{Action}
 use Rattle.pm_model.specs.Device.{Device, IsClean}
 use Rattle.pm_model.specs.Plans.{Play, IsPlaying, plan_of, words_after}
-use Rattle.pm_model.specs.Fixed.{last_at}
+use Rattle.pm_model.specs.Fixed.{last_at, commit_word_at}
 use Rattle.engine_core.specs.LogicalState.{logical_state, state_of}
 use Rattle.engine_core.specs.StageRules.{IsStage}
 use Rattle.engine_core.specs.StagePlans.{commit_late, commit_parts}
@@ -24,7 +24,7 @@ pub record IsUnderWay (left : List Action) (d : Device) : Type 0 where
   pub rest : (w : ℕ) → play.own w ≡ false → IsClean d w
 
 -- Session 1 is playing the plan of the commit of this number, the next one in the words at its start; so many of its actions
--- come after the fence that makes the commit word durable.
+-- come after the fence that makes the commit word durable, and it isn't yet.
 pub record IsCommitting (number late : ℕ) (left : List Action) (d : Device) : Type 0 where
   pub play : Play
   pub played : ℕ
@@ -35,6 +35,8 @@ pub record IsCommitting (number late : ℕ) (left : List Action) (d : Device) : 
   pub parts : play.parts ≡ commit_parts first count number
   pub late_is : late ≡ length (plan_of (commit_late count number))
   pub next : slice_index play.start last_at + 1 ≡ number
+  pub unset : slice_index play.start (commit_word_at 0) ≡ 0
+  pub not_yet : slice_index d.durable (commit_word_at 0) ≡ 0
 
 -- A commit that waits for its place is playing its plan.
 abbrev pub IsOnItsWay : Flight → List Action → Device → Type 0
