@@ -1,37 +1,34 @@
 -- Decisions as the functions that make them give them.
-use Rattle.std.proofs.Common.{◌≡◌, ◌⊎◌, inl, inr, ⊎_elim, ℕ, ℤ, ◌+◌, ◌<◌, ◌≤◌, ◌∙◌, Bool, true, false, not, ◌&&◌, ◌||◌, List, [], ◌∷◌, length, get_or, Option, None, Some, refl, ap, sym, subst, arith}
+use Rattle.std.proofs.Common.{◌≡◌, ℕ, ◌+◌, ◌<◌, ◌≤◌, false, List, [], get_or, None, Some, refl, sym, subst, arith}
 use Rattle.std.specs.Prelude.{Result, Ok, Err, IfOk, IsTrue}
 use Rattle.std.proofs.lemmas.Bool.{false≢true, and_right, or_from, le-ltb}
-use Rattle.mv_model.specs.declared.value.Value.TheVariants.{Int}
 use Rattle.mv_model.specs.declared.call.Call.{Call}
 use Rattle.mv_model.specs.declared.call.Call.TheVariants as call
 use Rattle.mv_model.specs.declared.reply.Reply.{Reply}
 use Rattle.mv_model.specs.declared.reply.Reply.TheVariants as reply
 use Rattle.mv_model.specs.declared.limits.TheConstants.{MAX_COMMITS}
-use Rattle.mv_model.specs.State.{State}
 use Rattle.mv_model.specs.History.{IsAllowed}
 use Rattle.mv_model.proofs.Unchanged.{refusals_change_nothing_lem}
 use Rattle.pm_model.specs.Fixed.{last_at}
-use Rattle.engine_core.specs.Stage.{high_at, value_at}
+use Rattle.engine_core.specs.Stage.{high_at}
 use Rattle.engine_core.specs.StageRules.{IsStage}
-use Rattle.engine_core.specs.Served.{get_of, insert_of, is_served}
+use Rattle.engine_core.specs.Served.{is_served}
 use Rattle.engine_core.specs.Decided.{IsDecided, IsDecision, IsClosed, IsPlacedLate, left_of}
-use Rattle.engine_core.specs.LogicalState.{commits_in, integer_of, is_seen, rows_from, state_of, within}
+use Rattle.engine_core.specs.LogicalState.{commits_in, is_seen, rows_from, state_of, within}
 use Rattle.engine_core.specs.declared.decision.Decision.{Decision}
 use Rattle.engine_core.specs.declared.transactions.Transactions.{Transactions}
 use Rattle.engine_core.specs.declared.transactions.Running.{Running}
 use Rattle.engine_core.proofs.Rows.{length-commits_in, length-rows_from}
 use Rattle.engine_core.proofs.States.{commit-spent}
-use Rattle.engine_core.proofs.Decisions.{refused, insert-full}
+use Rattle.engine_core.proofs.Decisions.{refused}
 use Rattle.engine_core.proofs.Commits.{close-decided}
-use Rattle.engine_core.proofs.Readings.{get-seen, get-unseen}
 
 -- a reply that leaves all as it is
 abbrev pub standing : Reply → Transactions → Decision
 standing given now = record { reply = given; copy = given; plan = None; after = now; late = None }
 
 pub stands : {E : Type 0} (words : List ℕ) (now : Transactions) (said : Call) (given : Reply) (made : Result Decision E) → IfOk made (λ decision. decision ≡ standing given now)
-    → IsDecided words now said given [] now → IsPlacedLate None said given [] → IfOk made (λ decision. IsDecision words now said decision)
+    → IsDecided words now said given [] now → IsPlacedLate words None said given [] → IfOk made (λ decision. IsDecision words now said decision)
 stands words now said given (Ok decision) is decided late =
     subst (λ (d : Decision). IsDecision words now said d) (sym is) (record { copied = refl; decided = decided; late = late })
 stands words now said given (Err error) is decided late = tt

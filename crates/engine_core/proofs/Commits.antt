@@ -1,28 +1,24 @@
 -- The words after a commit have one commit more and no open transaction; those after the end of a transaction that wrote
 -- nothing have no open transaction.
-use Rattle.std.proofs.Common.{◌≡◌, ◌≢◌, ◌⊎◌, inl, inr, ⊎_elim, ℕ, ℤ, zero, suc, ◌+◌, ◌-◌, ◌*◌, ◌^◌, ◌<◌, ◌≤◌, ◌∙◌, Bool, true, false, cond, eqb, List, [], ◌∷◌, ◌++◌, length, map, get_or, Option, None, Some, refl, ap, sym, subst, arith}
+use Rattle.std.proofs.Common.{◌≡◌, ◌≢◌, ◌⊎◌, inl, inr, ⊎_elim, ℕ, ◌+◌, ◌-◌, ◌^◌, ◌<◌, ◌≤◌, ◌∙◌, true, eqb, List, [], ◌∷◌, ◌++◌, length, map, get_or, None, Some, refl, ap, sym, subst, arith}
 use Rattle.std.specs.List.{range_with_len}
-use Rattle.std.proofs.lemmas.Bool.{cases_eq, cases_lt, eqb-true, ne_eqb, eq-eqb}
-use Rattle.mv_model.specs.State.{CreatedRow, RowKey, WriteSet, State}
+use Rattle.std.proofs.lemmas.Bool.{cases_lt, ne_eqb, eq-eqb}
+use Rattle.mv_model.specs.State.{CreatedRow, WriteSet, State}
 use Rattle.mv_model.specs.declared.call.Call.TheVariants as call
 use Rattle.mv_model.specs.declared.reply.Reply.TheVariants as reply
 use Rattle.mv_model.specs.declared.limits.TheConstants.{MAX_COMMITS}
-use Rattle.mv_model.specs.Answer.{answer}
 use Rattle.mv_model.specs.History.{IsAllowed}
 use Rattle.mv_model.specs.Next.{next}
 use Rattle.pm_model.specs.declared.action.Action.{Action}
 use Rattle.pm_model.specs.Fixed.{last_at, state_at, commit_word_at, entry_at}
-use Rattle.pm_model.specs.Plans.{Part, one_store, words_after, plan_of, store, finished, unless_empty, IsPart, IsPlan}
+use Rattle.pm_model.specs.Plans.{Part, one_store, words_after, plan_of, store, unless_empty, IsPart, IsPlan}
 use Rattle.pm_model.proofs.Alone.{length-words_after}
-use Rattle.txn_object.specs.Entries.{entry_word}
-use Rattle.txn_object.specs.Object.{clear_part, entry_clears, retire_parts}
+use Rattle.txn_object.specs.Object.{clear_part, entry_clears}
 use Rattle.engine_core.specs.Stage.{high_at, born_at, ended_at, value_at}
-use Rattle.engine_core.specs.StagePlans.{created_entry, stamp_part, commit_parts, close_parts}
+use Rattle.engine_core.specs.StagePlans.{stamp_part, commit_late, commit_parts, close_parts}
 use Rattle.engine_core.specs.StageRules.{IsStage}
-use Rattle.engine_core.specs.Decided.{IsDecided}
+use Rattle.engine_core.specs.Decided.{IsCommitPlan, IsDecided}
 use Rattle.engine_core.specs.LogicalState.{commit_of, commits_in, created_row, key_of, rows_from, rows_where, state_by, state_of}
-use Rattle.engine_core.specs.declared.transactions.Transactions.{Transactions}
-use Rattle.engine_core.specs.declared.transactions.Running.{Running}
 use Rattle.engine_core.proofs.Rows.{IsSameUpTo, commits_in-same, commits_in-more, rows_from-same, length-rows_from, length-commits_in, rows_where-interval, rows_where-none}
 use Rattle.engine_core.proofs.States.{creating, commit-answer, commit-next, commit-none, close-next}
 use Rattle.engine_core.proofs.Stores.{words_after-plan, get-stored, get-beside, one_store-part, get-run, get-run_beside, get-run_last, run, run-part, stores-at}
@@ -275,6 +271,18 @@ module _ (words : List ℕ) (begun number rows high last : ℕ) (stage : IsStage
         short = short;
         begun = omega arith;
       }
+
+  -- its plan is that of a commit with the next number
+  pub commit-planned : (commit late : ℕ) (actions : List Action) → commit ≡ last + 1 → actions ≡ plan_of (commit_parts high rows commit) → late ≡ length (plan_of (commit_late rows commit)) → IsCommitPlan words commit late actions
+  commit-planned commit late actions is_commit is_actions is_late = record {
+    first = high;
+    count = rows;
+    plan = subst (IsPlan (length words)) (sym (ap (commit_parts high rows) is_commit ∙ commit_parts-five high rows (last + 1))) commit-plan;
+    plan_is = is_actions;
+    late_is = is_late;
+    next = omega (arith, is_last, is_commit);
+    unset = stage.commit_word;
+  }
 
 -- ── the end of a transaction that wrote nothing ──
 

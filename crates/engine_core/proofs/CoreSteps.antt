@@ -1,10 +1,9 @@
 -- What the functions of a core rest on.
-use Rattle.std.proofs.Common.{◌≡◌, ◌≢◌, ◌⊎◌, inl, inr, ⊎_elim, ℕ, zero, suc, ◌+◌, ◌-◌, ◌<◌, ◌≤◌, ◌∙◌, List, [], ◌∷◌, ◌++◌, length, get_or, set, refl, ap, sym, subst, arith}
+use Rattle.std.proofs.Common.{◌≡◌, ◌≢◌, ℕ, suc, ◌-◌, ◌<◌, ◌≤◌, ◌∙◌, List, [], ◌∷◌, ◌++◌, length, get_or, set, refl, ap, sym, subst, arith}
 use Rattle.std.proofs.lemmas.List.{length-append}
 use Rattle.mv_model.specs.declared.reply.Entry.{Entry}
 use Rattle.pm_model.specs.declared.action.Action.{Action}
-use Rattle.pm_model.specs.Device.{Device}
-use Rattle.engine_core.specs.CoreState.{InFlight, Nothing, Unplaced, Last, IsWaiting, answered, in_flight_of}
+use Rattle.engine_core.specs.CoreState.{Nothing, Last, IsAnswered, IsAnsweredButFor, IsWaiting, in_flight_of}
 use Rattle.engine_core.specs.Kept.{IsBounded}
 use Rattle.engine_core.specs.declared.flight.Flight.{Flight}
 use Rattle.engine_core.specs.declared.flight.Flight.TheVariants as flight
@@ -14,6 +13,13 @@ is_idle flight.Idle is = refl
 is_idle (flight.Waiting said) is = cc
 is_idle (flight.Committing number late) is = cc
 is_idle (flight.Placed given) is = cc
+
+-- exactly the entry of a call in flight isn't answered
+pub answers-seen : (in_flight : Flight) (history : List Entry) → IsAnswered in_flight history → IsAnsweredButFor (in_flight_of in_flight) history
+answers-seen flight.Idle history answers = answers
+answers-seen (flight.Waiting said) history answers = answers
+answers-seen (flight.Committing number late) history answers = answers
+answers-seen (flight.Placed given) history answers = (given, answers)
 
 pub none-left : (left : List Action) → length left ≡ 0 → left ≡ []
 none-left [] none = refl

@@ -1,18 +1,16 @@
 -- A core over a formatted stage image.
-use Rattle.std.proofs.Common.{◌≡◌, ◌≢◌, ◌⊎◌, inl, inr, ℕ, zero, suc, ◌+◌, ◌*◌, ◌%◌, ◌<◌, ◌≤◌, ◌∙◌, max, Bool, true, false, cond, eqb, List, [], ◌∷◌, length, get_or, Option, None, refl, ap, sym, subst, arith}
-use Rattle.std.specs.Prelude.{All}
+use Rattle.std.proofs.Common.{◌≡◌, inl, ℕ, zero, suc, ◌+◌, ◌%◌, ◌<◌, ◌≤◌, ◌∙◌, true, eqb, List, [], ◌∷◌, get_or, None, refl, ap, arith}
 use Rattle.std.proofs.lemmas.Bool.{cond-false, ne_eqb, or_from, le-ltb}
 use Rattle.std.proofs.lemmas.List.Elements.{All-nil}
-use Rattle.mv_model.specs.State.{State, all_idle}
-use Rattle.mv_model.specs.declared.reply.Entry.{Entry}
+use Rattle.mv_model.specs.State.{all_idle}
 use Rattle.pm_model.specs.Fixed.{last_at, state_at, commit_word_at, entry_at}
 use Rattle.pm_model.specs.Device.{Device}
 use Rattle.pm_model.specs.Plans.{at_rest}
-use Rattle.engine_core.specs.Stage.{high_at, born_at, ended_at, stage_word, stage_words}
+use Rattle.engine_core.specs.Stage.{high_at, born_at, ended_at, stage_words}
 use Rattle.engine_core.specs.StageRules.{IsStage}
 use Rattle.engine_core.specs.CoreState.{IsFormatted}
-use Rattle.engine_core.specs.Kept.{IsKept, IsUnderWay}
-use Rattle.engine_core.specs.LogicalState.{commit_count, commits_in, greatest, logical_state, next_row, of_open, past_entry, state_of, table_of}
+use Rattle.engine_core.specs.Kept.{IsKept}
+use Rattle.engine_core.specs.LogicalState.{commit_count, commits_in, greatest, logical_state, next_row, of_open, one_empty_table, past_entry, state_of, table_of}
 use Rattle.engine_core.specs.declared.flight.Flight.TheVariants as flight
 use Rattle.engine_core.proofs.StageImage.{get_or-stage_words, length-stage_words}
 use Rattle.engine_core.proofs.Steps.{under_way-rests}
@@ -65,6 +63,20 @@ stage-formatted segments some =
       others = λ object low lt. stage-zero segments (state_at object) some (omega arith) (omega (arith, lt));
     }
 
+state-at_rest : (segments : ℕ) → 1 ≤ segments → logical_state (stage_words segments) ≡ one_empty_table
+state-at_rest segments some =
+    let words = stage_words segments in
+    let high = stage-zero segments high_at some (omega arith) (omega arith) in
+    let last = stage-zero segments last_at some (omega arith) (omega arith) in
+    logical-idle words (λ object lt. stage-zero segments (state_at object) some (omega arith) (omega (arith, lt)))
+    ∙ ap (λ (n : ℕ). record { tables = table_of (n + 0) ∷ []; commits = commits_in words (get_or words last_at 0); begun = 0; running = all_idle }) high
+    ∙ ap (λ (n : ℕ). record { tables = table_of 0 ∷ []; commits = commits_in words n; begun = 0; running = all_idle }) last
+
+-- a formatted image stands for a store of one empty table
+pub state-formatted : (d : Device) (opened : List ℕ) → IsFormatted d → opened ≡ d.cached → logical_state opened ≡ one_empty_table
+state-formatted d opened formatted same =
+    ap logical_state (same ∙ ap (λ (x : Device). x.cached) formatted.rests) ∙ state-at_rest formatted.segments formatted.one_or_more
+
 kept-at_rest : (segments : ℕ) → 1 ≤ segments → IsKept (at_rest (stage_words segments)) (stage_words segments) [] (record { begun = 0; running = None }) [] flight.Idle 0 0 0
 kept-at_rest segments some = record {
   legal = record { follows = tt; numbered = λ session. refl };
@@ -72,6 +84,7 @@ kept-at_rest segments some = record {
   represents = logical-idle (stage_words segments) (λ object lt. stage-zero segments (state_at object) some (omega arith) (omega (arith, lt)));
   stage = stage-formatted segments some;
   under_way = under_way-rests (stage_words segments);
+  commit = tt;
   answers = All-nil (λ entry. entry.answered ≡ true);
   alone = tt;
   count = refl;

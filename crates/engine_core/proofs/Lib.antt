@@ -12,3 +12,4 @@ pub mod Steps
 pub mod CoreSteps
 pub mod Movements
 pub mod FreshCore
+pub mod Placing

@@ -1,16 +1,18 @@
 -- What the steps of a core do to the call in flight and to the history.
-use Rattle.std.proofs.Common.{◌≡◌, ◌≢◌, ◌⊎◌, inl, inr, ℕ, ◌+◌, ◌<◌, ◌≤◌, ◌∙◌, List, [], ◌∷◌, ◌++◌, length, Option, None, Some, refl, ap, sym, subst, arith}
+use Rattle.std.proofs.Common.{◌≡◌, ◌⊎◌, inl, inr, ℕ, ◌+◌, ◌∙◌, List, [], ◌∷◌, ◌++◌, length, Option, None, Some, refl, ap, sym}
 use Rattle.mv_model.specs.declared.call.Call.{Call}
 use Rattle.mv_model.specs.declared.call.Call.TheVariants as call
 use Rattle.mv_model.specs.declared.reply.Reply.{Reply}
 use Rattle.mv_model.specs.declared.reply.Reply.TheVariants as reply
 use Rattle.mv_model.specs.declared.reply.Entry.{Entry}
-use Rattle.mv_model.specs.State.{State}
 use Rattle.mv_model.specs.History.{state_after}
 use Rattle.pm_model.specs.declared.action.Action.{Action}
+use Rattle.pm_model.specs.Device.{Device, acted}
 use Rattle.engine_core.specs.Decided.{IsFullWhere, IsPlacedLate}
 use Rattle.engine_core.specs.LogicalState.{logical_state}
-use Rattle.engine_core.specs.CoreState.{CoreState, EndsUnanswered, GetsEntryAtDecision, GetsNumber, GetsReply, InFlight, IsEntered, IsNumbered, IsPlacedAt, Last, Nothing, Stays, Unplaced, answered, in_flight_of, pending, unanswered}
+use Rattle.engine_core.specs.CoreState.{CoreState, EndsUnanswered, GetsEntryAtDecision, GetsNumber, GetsReply, IsEntered, IsNumbered, IsPlacedAt, Stays, Unplaced, answered, in_flight_of, pending, unanswered}
+use Rattle.engine_core.specs.Kept.{IsOnItsWay}
+use Rattle.engine_core.proofs.Placing.{placed-at}
 use Rattle.engine_core.specs.declared.decision.Late.{Late}
 use Rattle.engine_core.specs.declared.flight.Flight.{Flight}
 use Rattle.engine_core.specs.declared.flight.Flight.TheVariants as flight
@@ -29,31 +31,33 @@ core_of memory opened history in_flight to_play events_left played started = rec
 }
 
 module _ (M : Type 0) (memory after : M) (opened : List ℕ) (history new : List Entry) (to_play left events fewer played more started : ℕ) where
-  pub plays-moves : (before placed : Flight) → IsPlacedAt left before placed history new → length history + pending before ≡ started
+  pub plays-moves : (d e : Device) (actions rest : List Action) (action : Action) (before placed : Flight) → actions ≡ action ∷ rest → left ≡ length rest → e ≡ acted 1 action d → IsOnItsWay before actions d
+      → IsPlacedAt left before placed history new → length history + pending before ≡ started
       → Stays (core_of memory opened history before to_play events played started) (core_of after opened new placed left fewer more started)
-      ⊎ GetsNumber (core_of memory opened history before to_play events played started) (core_of after opened new placed left fewer more started)
-  plays-moves flight.Idle placed places count = inl (record { in_flight = ap in_flight_of places.0; history = places.1 })
-  plays-moves (flight.Waiting said) placed places count = inl (record { in_flight = ap in_flight_of places.0; history = places.1 })
-  plays-moves (flight.Committing number late) placed (inl places) count = inr (record {
+      ⊎ GetsNumber d e (core_of memory opened history before to_play events played started) (core_of after opened new placed left fewer more started)
+  plays-moves d e actions rest action flight.Idle placed is size acts way places count = inl (record { in_flight = ap in_flight_of places.0; history = places.1 })
+  plays-moves d e actions rest action (flight.Waiting said) placed is size acts way places count = inl (record { in_flight = ap in_flight_of places.0; history = places.1 })
+  plays-moves d e actions rest action (flight.Committing number late) placed is size acts way (inl places) count = inr (record {
     number = number;
     entry = record {
       was = refl;
       now = ap in_flight_of places.1;
       history = places.2 ∙ ap (λ (n : ℕ). history ++ unanswered n call.Commit (reply.Committed number) ∷ []) count;
     };
+    at_fence = placed-at number late d e actions rest action is acts (places.0 ∙ size) way;
   })
-  plays-moves (flight.Committing number late) placed (inr places) count = inl (record { in_flight = ap in_flight_of places.1; history = places.2 })
-  plays-moves (flight.Placed given) placed places count = inl (record { in_flight = ap in_flight_of places.0; history = places.1 })
+  plays-moves d e actions rest action (flight.Committing number late) placed is size acts way (inr places) count = inl (record { in_flight = ap in_flight_of places.1; history = places.2 })
+  plays-moves d e actions rest action (flight.Placed given) placed is size acts way places count = inl (record { in_flight = ap in_flight_of places.0; history = places.1 })
 
-  not_numbered : (said : Call) (given : Reply) (actions : List Action) → IsPlacedLate None said given actions → IsNumbered given → ⊥
-  not_numbered said (reply.Committed number) actions places numbered = places
-  not_numbered said given actions places numbered = numbered
+  not_numbered : (words : List ℕ) (said : Call) (given : Reply) (actions : List Action) → IsPlacedLate words None said given actions → IsNumbered given → ⊥
+  not_numbered words said (reply.Committed number) actions places numbered = places
+  not_numbered words said given actions places numbered = numbered
 
-  pub decides-moves : (said : Call) (given copy : Reply) (late : Option Late) (entered : Flight) (actions : List Action) → IsPlacedLate late said given actions
+  pub decides-moves : (words : List ℕ) (said : Call) (given copy : Reply) (late : Option Late) (entered : Flight) (actions : List Action) → IsPlacedLate words late said given actions
       → IsEntered late said given copy history new entered → length history + 1 ≡ started → IsFullWhere (state_after (logical_state opened) history) given
       → GetsEntryAtDecision (core_of memory opened history (flight.Waiting said) to_play events played started) (core_of after opened new entered left fewer more started)
       ⊎ ((Unplaced said ≡ Unplaced call.Commit) × Stays (core_of memory opened history (flight.Waiting said) to_play events played started) (core_of after opened new entered left fewer more started))
-  decides-moves said given copy None entered actions places enters count full = inl (record {
+  decides-moves words said given copy None entered actions places enters count full = inl (record {
     said = said;
     given = given;
     entry = record {
@@ -61,12 +65,12 @@ module _ (M : Type 0) (memory after : M) (opened : List ℕ) (history new : List
       now = ap in_flight_of enters.1;
       history = enters.0 ∙ ap (λ (n : ℕ). history ++ unanswered n said given ∷ []) count;
     };
-    no_number = not_numbered said given actions places;
+    no_number = not_numbered words said given actions places;
     full = full;
   })
-  decides-moves said (reply.Committed number) copy (Some late) entered actions places enters count full =
+  decides-moves words said (reply.Committed number) copy (Some late) entered actions places enters count full =
       inr (ap Unplaced places.0, record { in_flight = ap in_flight_of enters.1 ∙ ap Unplaced (sym places.0); history = enters.0 })
-  decides-moves said given copy (Some late) entered actions places enters count full = absurd places
+  decides-moves words said given copy (Some late) entered actions places enters count full = absurd places
 
   pub replies-moves : (given : Reply) → EndsUnanswered given history → ((front : List Entry) → (last : Entry) → history ≡ front ++ last ∷ [] → new ≡ front ++ answered last ∷ [])
       → GetsReply given (core_of memory opened history (flight.Placed given) to_play events played started) (core_of after opened new flight.Idle left fewer more started)

@@ -1,6 +1,6 @@
 -- Each event keeps what a core keeps.
-use Rattle.std.proofs.Common.{◌≡◌, ◌≢◌, ◌⊎◌, inl, inr, ⊎_elim, ℕ, zero, suc, ◌+◌, ◌*◌, ◌<◌, ◌≤◌, ◌∙◌, Bool, true, false, List, [], ◌∷◌, ◌++◌, length, get_or, Option, None, Some, refl, ap, sym, subst, append-nil, arith}
-use Rattle.std.specs.Prelude.{IsTrue, All}
+use Rattle.std.proofs.Common.{◌≡◌, ◌≢◌, inl, inr, ⊎_elim, ℕ, ◌+◌, ◌<◌, ◌≤◌, ◌∙◌, Bool, true, false, List, [], ◌∷◌, ◌++◌, length, get_or, Option, None, Some, refl, ap, sym, subst, append-nil, arith}
+use Rattle.std.specs.Prelude.{IsTrue}
 use Rattle.std.proofs.lemmas.Bool.{cases_Bool, cond-true, cond-false}
 use Rattle.std.proofs.lemmas.List.{length-append}
 use Rattle.std.proofs.lemmas.List.Elements.{All-append, All-cons, All-nil}
@@ -14,21 +14,20 @@ use Rattle.mv_model.specs.History.{IsAllowed, IsLegal, state_after}
 use Rattle.mv_model.specs.Next.{next}
 use Rattle.pm_model.specs.declared.action.Action.{Action}
 use Rattle.pm_model.specs.declared.action.Action.TheVariants.{Store, Flush, Fence, Punch}
-use Rattle.pm_model.specs.Device.{Device, acted, CanAct, IsClean, cached_after, choose_by, writes}
-use Rattle.pm_model.specs.Plans.{Play, Part, IsPlayable, IsPlaying, IsPlan, MayBegin, HasEnded, words_after, plan_of, footprint, at_rest}
+use Rattle.pm_model.specs.Device.{Device, acted, CanAct, IsClean, writes}
+use Rattle.pm_model.specs.Plans.{Play, Part, IsPlaying, IsPlan, words_after, plan_of, footprint, at_rest}
 use Rattle.pm_model.proofs.Words.{cached_after-kept, get_or-choose_by}
-use Rattle.pm_model.proofs.Alone.{length-words_after, IsPlan-size}
 use Rattle.pm_model.proofs.PlanLaw.{plan_begins, plan_can_act, plan_goes_on, plan_owns, plan_ends}
-use Rattle.engine_core.specs.StageRules.{IsStage}
-use Rattle.engine_core.specs.Decided.{IsDecided, IsPlacedLate}
+use Rattle.engine_core.specs.Decided.{IsCommitPlan, IsDecided, IsPlacedLate}
 use Rattle.engine_core.specs.LogicalState.{logical_state, state_of}
-use Rattle.engine_core.specs.CoreState.{EndsUnanswered, IsAnswered, IsEntered, IsOfOne, IsPlacedAt, answered, due, pending, unanswered}
-use Rattle.engine_core.specs.Kept.{IsBounded, IsKept, IsUnderWay}
+use Rattle.engine_core.specs.CoreState.{IsEntered, IsOfOne, IsPlacedAt, answered, unanswered}
+use Rattle.engine_core.specs.Kept.{IsKept, IsUnderWay}
 use Rattle.engine_core.specs.Served.{is_served}
 use Rattle.engine_core.specs.declared.decision.Late.{Late}
 use Rattle.engine_core.specs.declared.flight.Flight.{Flight}
 use Rattle.engine_core.specs.declared.flight.Flight.TheVariants as flight
 use Rattle.engine_core.specs.declared.transactions.Transactions.{Transactions}
+use Rattle.engine_core.proofs.Placing.{committing-begins, committing-plays}
 use Rattle.engine_core.proofs.Histories.{legal-answered, legal-more, of_one-answered, of_one-more, state_after-answered, state_after-more}
 
 -- ── one action ──
@@ -119,6 +118,7 @@ module _ (opened : List ℕ) where
         represents = kept.represents ∙ ap (λ (ws : List ℕ). state_of ws now) (sym words);
         stage = rw words kept.stage;
         under_way = under_way-plays d after left rest action is acts kept.under_way;
+        commit = tt;
         answers = kept.answers;
         alone = kept.alone;
         count = kept.count;
@@ -138,6 +138,7 @@ module _ (opened : List ℕ) where
         represents = kept.represents ∙ ap (λ (ws : List ℕ). state_of ws now) (sym words);
         stage = rw words kept.stage;
         under_way = under_way-plays d after left rest action is acts kept.under_way;
+        commit = committing-plays number late d after left rest action is acts (let below = kept.bounded.0 in let size = ap length is in omega (arith, below, size, apart)) kept.commit;
         answers = kept.answers;
         alone = kept.alone;
         count = kept.count;
@@ -162,6 +163,7 @@ module _ (opened : List ℕ) where
         represents = ap (state_after (logical_state opened)) none ∙ kept.represents ∙ ap (λ (ws : List ℕ). state_of ws now) (sym words);
         stage = rw words kept.stage;
         under_way = under_way-plays d after left rest action is acts kept.under_way;
+        commit = tt;
         answers = record { front = history; last = entry; is = refl; given_before = kept.answers; open_still = refl; reply = refl };
         alone = of_one-more history entry kept.alone refl;
         count = let c = kept.count in omega (arith, c, size_more);
@@ -213,6 +215,7 @@ module _ (opened : List ℕ) where
         represents = ap (state_after (logical_state opened)) none ∙ state_after-more (logical_state opened) history entry ∙ ap (λ (s : State). next s 1 said given) before ∙ decided.state;
         stage = decided.stage;
         under_way = subst (λ (l : List Action). IsUnderWay l d) (sym decided.plan_is) (under_way-begins d [] decided.parts refl kept.under_way decided.plan);
+        commit = tt;
         answers = record { front = history; last = entry; is = refl; given_before = kept.answers; open_still = refl; reply = sym copied };
         alone = of_one-more history entry kept.alone refl;
         count = let c = kept.count in omega (arith, c, size_more);
@@ -222,10 +225,10 @@ module _ (opened : List ℕ) where
       }
 
   decides_late : (d : Device) (history : List Entry) (now next_now : Transactions) (number late : ℕ) (actions : List Action) (events fewer played started : ℕ)
-      → events ≡ fewer + 1 → late < length actions → IsDecided d.cached now call.Commit (reply.Committed number) actions next_now
+      → events ≡ fewer + 1 → late < length actions → IsCommitPlan d.cached number late actions → IsDecided d.cached now call.Commit (reply.Committed number) actions next_now
       → IsKept d opened history now [] (flight.Waiting call.Commit) events played started
       → IsKept d opened history next_now actions (flight.Committing number late) fewer played started
-  decides_late d history now next_now number late actions events fewer played started one later decided kept =
+  decides_late d history now next_now number late actions events fewer played started one later planned decided kept =
       let entry = unanswered (length history + 1) call.Commit (reply.Committed number) in
       let before = state_now d history now call.Commit events played started kept in
       let size_more = length-append history (entry ∷ []) in
@@ -236,6 +239,7 @@ module _ (opened : List ℕ) where
         represents = state_after-more (logical_state opened) history entry ∙ ap (λ (s : State). next s 1 call.Commit (reply.Committed number)) before ∙ decided.state;
         stage = decided.stage;
         under_way = subst (λ (l : List Action). IsUnderWay l d) (sym decided.plan_is) (under_way-begins d [] decided.parts refl kept.under_way decided.plan);
+        commit = committing-begins number late d actions (all-clean d [] refl kept.under_way) (kept.under_way.playing.looks.durable_size ∙ sym kept.under_way.playing.looks.cached_size) planned;
         answers = kept.answers;
         alone = kept.alone;
         count = kept.count;
@@ -246,13 +250,13 @@ module _ (opened : List ℕ) where
 
   -- a decision
   pub decides : (d : Device) (history new : List Entry) (now next_now : Transactions) (said : Call) (given copy : Reply) (late : Option Late) (entered : Flight) (actions : List Action) (events fewer played started : ℕ)
-      → events ≡ fewer + 1 → copy ≡ given → IsPlacedLate late said given actions → IsEntered late said given copy history new entered → IsDecided d.cached now said given actions next_now
+      → events ≡ fewer + 1 → copy ≡ given → IsPlacedLate d.cached late said given actions → IsEntered late said given copy history new entered → IsDecided d.cached now said given actions next_now
       → IsKept d opened history now [] (flight.Waiting said) events played started → IsKept d opened new next_now actions entered fewer played started
   decides d history new now next_now said given copy None entered actions events fewer played started one copied places enters decided kept =
       rw (enters.0, enters.1) (decides_now d history now next_now said given copy actions events fewer played started one copied decided kept)
   decides d history new now next_now said (reply.Committed number) copy (Some late) entered actions events fewer played started one copied places enters decided kept =
       rw (enters.0, enters.1, places.1)
-      (decides_late d history now next_now number late.left actions events fewer played started one places.2
+      (decides_late d history now next_now number late.left actions events fewer played started one places.2 places.3
       (subst (λ (c : Call). IsDecided d.cached now c (reply.Committed number) actions next_now) places.0 decided)
       (subst (λ (c : Call). IsKept d opened history now [] (flight.Waiting c) events played started) places.0 kept))
   decides d history new now next_now said given copy (Some late) entered actions events fewer played started one copied places enters decided kept = absurd places
@@ -277,6 +281,7 @@ module _ (opened : List ℕ) where
             ∙ ap (state_after (logical_state opened)) (sym (none_old ∙ ends.is)) ∙ kept.represents;
         stage = kept.stage;
         under_way = kept.under_way;
+        commit = tt;
         answers = All-append (λ entry. entry.answered ≡ true) ends.front (answered ends.last ∷ []) ends.given_before
             (All-cons (λ entry. entry.answered ≡ true) (answered ends.last) [] refl (All-nil (λ entry. entry.answered ≡ true)));
         alone = of_one-answered ends.front ends.last (subst IsOfOne ends.is kept.alone);
@@ -295,6 +300,7 @@ module _ (opened : List ℕ) where
     represents = kept.represents;
     stage = kept.stage;
     under_way = kept.under_way;
+    commit = tt;
     answers = kept.answers;
     alone = kept.alone;
     count = let c = kept.count in omega (arith, c);

@@ -1,13 +1,12 @@
 -- Parts that store one value at a run of places, and one more word.
-use Rattle.std.proofs.Common.{◌≡◌, ◌≢◌, ◌⊎◌, inl, inr, ⊎_elim, ℕ, zero, suc, ◌+◌, ◌*◌, ◌/◌, ◌<◌, ◌≤◌, ◌∙◌, Bool, true, false, cond, ◌||◌, eqb, ltb, List, [], ◌∷◌, ◌++◌, length, map, get_or, set, refl, ap, sym, subst, arith}
+use Rattle.std.proofs.Common.{◌≡◌, ◌≢◌, ◌⊎◌, inl, inr, ⊎_elim, ℕ, zero, suc, ◌+◌, ◌/◌, ◌<◌, ◌≤◌, ◌∙◌, false, cond, eqb, ltb, List, [], ◌∷◌, ◌++◌, length, map, get_or, set, refl, ap, sym, arith}
 use Rattle.std.specs.List.{range_with_len}
-use Rattle.std.proofs.lemmas.Bool.{cases_eq, eqb-true, ne_eqb, eq-eqb, or_from, cond-true, cond-false, cond_both}
-use Rattle.std.proofs.lemmas.List.{get_or-set_same, get_or-set_other, length-set, map-append}
-use Rattle.pm_model.specs.declared.action.Action.{Action}
+use Rattle.std.proofs.lemmas.Bool.{cases_eq, eqb-true, ne_eqb, or_from, cond_both}
+use Rattle.std.proofs.lemmas.List.{get_or-set_same, get_or-set_other, length-set}
 use Rattle.pm_model.specs.declared.action.Action.TheVariants.{Store, Flush, Fence, Punch}
-use Rattle.pm_model.specs.Plans.{Part, store, one_store, stores, words_after, footprint, add_line, lines_of, part_end, part_actions, plan_of, finished, IsPart}
+use Rattle.pm_model.specs.Plans.{Part, store, one_store, stores, words_after, footprint, add_line, lines_of, part_actions, plan_of, finished, IsPart}
 use Rattle.pm_model.proofs.PlanLaw.{words_after-kept}
-use Rattle.pm_model.proofs.Alone.{words_after-append, words_after-part, length-words_after}
+use Rattle.pm_model.proofs.Alone.{words_after-append, words_after-part}
 
 -- ── a plan ──
 
@@ -63,7 +62,7 @@ module _ (value : ℕ) (place : ℕ → ℕ) (base : ℕ) (is : (k : ℕ) → pl
   length-run first zero = refl
   length-run first (suc count) = let rest = length-run (first + 1) count in omega (arith, rest)
 
-  run-misses : (first count w : ℕ) → (w < base + first) ⊎ (base + first + count ≤ w) → w ≢ last → footprint (run first count) w ≡ false
+  pub run-misses : (first count w : ℕ) → (w < base + first) ⊎ (base + first + count ≤ w) → w ≢ last → footprint (run first count) w ≡ false
   run-misses first zero w out apart = or_from (eqb w last) false (ne_eqb w last apart) refl
   run-misses first (suc count) w out apart =
       let at = is first in

@@ -1,15 +1,16 @@
 -- What contracts see of a core.
-use Rattle.std.specs.Prelude.{◌≡◌, ◌≢◌, ◌⊎◌, ℕ, Option, Some, None, ◌+◌, ◌*◌, ◌<◌, ◌≤◌, true, false, IsTrue, List, [], ◌∷◌, ◌++◌, length, slice_index, All}
+use Rattle.std.specs.Prelude.{◌≡◌, ◌≢◌, ◌⊎◌, ℕ, Option, Some, None, ◌+◌, ◌≤◌, true, false, List, [], ◌∷◌, ◌++◌, length, slice_index, All}
 use Rattle.mv_model.specs.declared.call.Call.{Call}
 use Rattle.mv_model.specs.declared.call.Call.TheVariants as call
 use Rattle.mv_model.specs.declared.reply.Reply.{Reply}
 use Rattle.mv_model.specs.declared.reply.Reply.TheVariants as reply
 use Rattle.mv_model.specs.declared.reply.Entry.{Entry}
-use Rattle.mv_model.specs.State.{State}
 use Rattle.mv_model.specs.History.{state_after}
 use Rattle.pm_model.specs.declared.action.Action.{Action}
+use Rattle.pm_model.specs.declared.action.Action.TheVariants.{Fence}
 use Rattle.pm_model.specs.Device.{Device, acted}
 use Rattle.pm_model.specs.Plans.{at_rest}
+use Rattle.pm_model.specs.Fixed.{last_at, commit_word_at}
 use Rattle.engine_core.specs.Stage.{stage_words}
 use Rattle.engine_core.specs.Decided.{IsFullWhere}
 use Rattle.engine_core.specs.LogicalState.{logical_state}
@@ -107,6 +108,12 @@ IsAnswered (flight.Waiting said) history = All (λ entry. entry.answered ≡ tru
 IsAnswered (flight.Committing number late) history = All (λ entry. entry.answered ≡ true) history
 IsAnswered (flight.Placed given) history = EndsUnanswered given history
 
+-- Each entry but the last is answered, and the last is unanswered exactly where its call is in flight.
+abbrev pub IsAnsweredButFor : InFlight → List Entry → Type 0
+IsAnsweredButFor Nothing history = All (λ entry. entry.answered ≡ true) history
+IsAnsweredButFor (Unplaced said) history = All (λ entry. entry.answered ≡ true) history
+IsAnsweredButFor Last history = (given : Reply) × EndsUnanswered given history
+
 -- what a step does to the device: one action of the session, or nothing
 abbrev pub ActsOnce : Step → ℕ → Device → Device → Type 0
 ActsOnce Played session before after = (action : Action) × (after ≡ acted session action before)
@@ -138,10 +145,19 @@ pub record GetsEntryAtDecision {M : Type 0} (before after : CoreState M) : Type 
   pub no_number : IsNumbered given → ⊥
   pub full : IsFullWhere (state_after (logical_state before.opened) before.history) given
 
--- Such a commit gets its entry at an action.
-pub record GetsNumber {M : Type 0} (before after : CoreState M) : Type 0 where
+-- The action was the fence that makes the commit word durable with this number, and the last commit number is still the
+-- one before.
+pub record IsAtFence (number : ℕ) (before after : Device) : Type 0 where
+  pub fence : after ≡ acted 1 Fence before
+  pub was : slice_index before.durable (commit_word_at 0) ≡ 0
+  pub commit_word : slice_index after.durable (commit_word_at 0) ≡ number
+  pub last : slice_index after.cached last_at + 1 ≡ number
+
+-- Such a commit gets its entry at the action that makes its commit word durable.
+pub record GetsNumber {M : Type 0} (d e : Device) (before after : CoreState M) : Type 0 where
   pub number : ℕ
   pub entry : GetsEntry call.Commit (reply.Committed number) before after
+  pub at_fence : IsAtFence number d e
 
 -- The reply of the last entry is given, and no call is in flight.
 pub record GetsReply {M : Type 0} (given : Reply) (before after : CoreState M) : Type 0 where
@@ -153,12 +169,12 @@ pub record GetsReply {M : Type 0} (given : Reply) (before after : CoreState M) :
   pub reply : last.reply ≡ given
   pub answered_now : after.history ≡ front ++ answered last ∷ []
 
--- what a step does to the call in flight and to the history
-abbrev pub Moves : {M : Type 0} → Step → CoreState M → CoreState M → Type 0
-Moves Played before after = Stays before after ⊎ GetsNumber before after
-Moves Decided before after = GetsEntryAtDecision before after ⊎ ((before.in_flight ≡ Unplaced call.Commit) × Stays before after)
-Moves (Blocked holder) before after = ⊥
-Moves (Replied given) before after = GetsReply given before after
+-- what a step that takes the device from one to another does to the call in flight and to the history
+abbrev pub Moves : {M : Type 0} → Step → Device → Device → CoreState M → CoreState M → Type 0
+Moves Played d e before after = Stays before after ⊎ GetsNumber d e before after
+Moves Decided d e before after = GetsEntryAtDecision before after ⊎ ((before.in_flight ≡ Unplaced call.Commit) × Stays before after)
+Moves (Blocked holder) d e before after = ⊥
+Moves (Replied given) d e before after = GetsReply given before after
 
 -- how many actions a step plays
 abbrev pub actions_of : Step → ℕ
@@ -167,9 +183,9 @@ actions_of Decided = 0
 actions_of (Blocked holder) = 0
 actions_of (Replied given) = 0
 
--- what a step does beside the device: it takes one of the events that are left
-pub record IsEvent {M : Type 0} (step : Step) (before after : CoreState M) : Type 0 where
-  pub moves : Moves step before after
+-- what a step that takes the device from one to another does beside it: it takes one of the events that are left
+pub record IsEvent {M : Type 0} (step : Step) (d e : Device) (before after : CoreState M) : Type 0 where
+  pub moves : Moves step d e before after
   pub opened : after.opened ≡ before.opened
   pub started : after.started ≡ before.started
   pub events : after.events_left + 1 ≡ before.events_left

@@ -1,5 +1,5 @@
 -- What a decision has to meet.
-use Rattle.std.specs.Prelude.{◌≡◌, ◌⊎◌, ℕ, ◌+◌, ◌<◌, ◌≤◌, List, [], length, Option, Some, None}
+use Rattle.std.specs.Prelude.{◌≡◌, ◌⊎◌, ℕ, ◌+◌, ◌<◌, ◌≤◌, List, [], length, slice_index, Option, Some, None}
 use Rattle.mv_model.specs.declared.call.Call.{Call}
 use Rattle.mv_model.specs.declared.reply.Reply.{Reply}
 use Rattle.mv_model.specs.declared.call.Call.TheVariants as call
@@ -11,10 +11,11 @@ use Rattle.mv_model.specs.History.{IsAllowed}
 use Rattle.mv_model.specs.Next.{next}
 use Rattle.pm_model.specs.declared.action.Action.{Action}
 use Rattle.pm_model.specs.PlanState.{PlanState}
+use Rattle.pm_model.specs.Fixed.{last_at, commit_word_at}
 use Rattle.pm_model.specs.Plans.{Part, plan_of, words_after, IsPlan}
 use Rattle.engine_core.specs.StageRules.{IsStage}
 use Rattle.engine_core.specs.LogicalState.{state_of}
-use Rattle.engine_core.specs.StagePlans.{close_parts}
+use Rattle.engine_core.specs.StagePlans.{close_parts, commit_late, commit_parts}
 use Rattle.engine_core.specs.declared.decision.Decision.{Decision}
 use Rattle.engine_core.specs.declared.decision.Late.{Late}
 use Rattle.engine_core.specs.declared.transactions.Transactions.{Transactions}
@@ -48,18 +49,31 @@ pub record IsDecided (words : List ℕ) (before : Transactions) (said : Call) (g
   pub short : length actions ≤ 400
   pub begun : after.begun ≤ before.begun + 1
 
--- A commit gets its place in the history, and its number, while its plan is played; every other call at its decision.
-abbrev pub IsPlacedLate : Option Late → Call → Reply → List Action → Type 0
-IsPlacedLate (Some late) said (reply.Committed number) left = (said ≡ call.Commit) × (late.number ≡ number) × (late.left < length left)
-IsPlacedLate (Some late) said other left = ⊥
-IsPlacedLate None said (reply.Committed number) left = ⊥
-IsPlacedLate None said other left = Unit {0}
+-- These actions are the plan of the commit of this number, the next one in these words, and so many of them come after the
+-- fence that makes its commit word durable.
+pub record IsCommitPlan (words : List ℕ) (number late : ℕ) (actions : List Action) : Type 0 where
+  pub first : ℕ
+  pub count : ℕ
+  pub plan : IsPlan (length words) (commit_parts first count number)
+  pub plan_is : actions ≡ plan_of (commit_parts first count number)
+  pub late_is : late ≡ length (plan_of (commit_late count number))
+  pub next : slice_index words last_at + 1 ≡ number
+  pub unset : slice_index words (commit_word_at 0) ≡ 0
+
+-- A commit gets its place in the history, and its number, at the fence that makes its commit word durable; every other
+-- call at its decision.
+abbrev pub IsPlacedLate : List ℕ → Option Late → Call → Reply → List Action → Type 0
+IsPlacedLate words (Some late) said (reply.Committed number) left =
+    (said ≡ call.Commit) × (late.number ≡ number) × (late.left < length left) × IsCommitPlan words number late.left left
+IsPlacedLate words (Some late) said other left = ⊥
+IsPlacedLate words None said (reply.Committed number) left = ⊥
+IsPlacedLate words None said other left = Unit {0}
 
 -- what a decision has to meet
 pub record IsDecision (words : List ℕ) (before : Transactions) (said : Call) (decision : Decision) : Type 0 where
   pub copied : decision.copy ≡ decision.reply
   pub decided : IsDecided words before said decision.reply (left_of decision.plan) decision.after
-  pub late : IsPlacedLate decision.late said decision.reply (left_of decision.plan)
+  pub late : IsPlacedLate words decision.late said decision.reply (left_of decision.plan)
 
 -- the decision that ends a transaction that wrote nothing
 pub record IsClosed (begun : ℕ) (decision : Decision) : Type 0 where

@@ -1,12 +1,14 @@
 -- What a core keeps.
-use Rattle.std.specs.Prelude.{◌≡◌, ℕ, ◌+◌, ◌*◌, ◌<◌, ◌≤◌, false, IsTrue, List, [], ◌∷◌, ◌++◌, length}
+use Rattle.std.specs.Prelude.{◌≡◌, ℕ, ◌+◌, ◌*◌, ◌<◌, ◌≤◌, false, IsTrue, List, [], ◌++◌, length, slice_index}
 use Rattle.mv_model.specs.declared.reply.Entry.{Entry}
 use Rattle.mv_model.specs.History.{IsLegal, state_after}
 use Rattle.pm_model.specs.declared.action.Action.{Action}
 use Rattle.pm_model.specs.Device.{Device, IsClean}
-use Rattle.pm_model.specs.Plans.{Play, IsPlaying, words_after}
+use Rattle.pm_model.specs.Plans.{Play, IsPlaying, plan_of, words_after}
+use Rattle.pm_model.specs.Fixed.{last_at, commit_word_at}
 use Rattle.engine_core.specs.LogicalState.{logical_state, state_of}
 use Rattle.engine_core.specs.StageRules.{IsStage}
+use Rattle.engine_core.specs.StagePlans.{commit_late, commit_parts}
 use Rattle.engine_core.specs.Served.{is_served}
 use Rattle.engine_core.specs.CoreState.{IsAnswered, IsOfOne, due, pending}
 use Rattle.engine_core.specs.declared.flight.Flight.{Flight}
@@ -20,6 +22,28 @@ pub record IsUnderWay (left : List Action) (d : Device) : Type 0 where
   pub session : play.session ≡ 1
   pub playing : IsPlaying play played left d
   pub rest : (w : ℕ) → play.own w ≡ false → IsClean d w
+
+-- Session 1 is playing the plan of the commit of this number, the next one in the words at its start; so many of its actions
+-- come after the fence that makes the commit word durable, and it isn't yet.
+pub record IsCommitting (number late : ℕ) (left : List Action) (d : Device) : Type 0 where
+  pub play : Play
+  pub played : ℕ
+  pub session : play.session ≡ 1
+  pub playing : IsPlaying play played left d
+  pub first : ℕ
+  pub count : ℕ
+  pub parts : play.parts ≡ commit_parts first count number
+  pub late_is : late ≡ length (plan_of (commit_late count number))
+  pub next : slice_index play.start last_at + 1 ≡ number
+  pub unset : slice_index play.start (commit_word_at 0) ≡ 0
+  pub not_yet : slice_index d.durable (commit_word_at 0) ≡ 0
+
+-- A commit that waits for its place is playing its plan.
+abbrev pub IsOnItsWay : Flight → List Action → Device → Type 0
+IsOnItsWay flight.Idle left d = Unit {0}
+IsOnItsWay (flight.Waiting said) left d = Unit {0}
+IsOnItsWay (flight.Committing number late) left d = IsCommitting number late left d
+IsOnItsWay (flight.Placed given) left d = Unit {0}
 
 -- how many more events a call in flight may take, and what is left to play
 abbrev pub IsBounded : Flight → List Action → ℕ → Type 0
@@ -36,6 +60,7 @@ pub record IsKept (d : Device) (opened : List ℕ) (history : List Entry) (now :
   pub represents : state_after (logical_state opened) (history ++ due (length history) in_flight) ≡ state_of (words_after left d.cached) now
   pub stage : IsStage (words_after left d.cached) now.running
   pub under_way : IsUnderWay left d
+  pub commit : IsOnItsWay in_flight left d
   pub answers : IsAnswered in_flight history
   pub alone : IsOfOne history
   pub count : length history + pending in_flight ≡ started

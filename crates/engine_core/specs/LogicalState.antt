@@ -1,5 +1,5 @@
 -- The table state that the words of a stage image stand for.
-use Rattle.std.specs.Prelude.{ℕ, ℤ, zero, suc, ◌+◌, ◌/◌, ◌%◌, ◌^◌, ◌==◌, ◌&&◌, ◌||◌, not, nat_le, nat_lt, max, Bool, if◌then◌else◌, codes, List, [], ◌∷◌, length, map, filter, Option, None, option_map, slice_set, slice_index}
+use Rattle.std.specs.Prelude.{ℕ, ℤ, zero, suc, ◌+◌, ◌/◌, ◌%◌, ◌^◌, ◌==◌, ◌&&◌, ◌||◌, not, nat_le, nat_lt, max, Bool, if◌then◌else◌, codes, List, [], ◌∷◌, map, filter, Option, option_map, slice_set, slice_index}
 use Rattle.std.specs.List.{range_with_len}
 use Rattle.std.specs.Option.{option_map_or}
 use Rattle.std.specs.Int.{cast_signed}
@@ -83,6 +83,10 @@ logical_state words = record {
   begun = 0;
   running = all_idle;
 }
+
+-- a store of the one table, in which no commit has created a row
+abbrev pub one_empty_table : State
+one_empty_table = record { tables = table_of 0 ∷ []; commits = []; begun = 0; running = all_idle }
 
 -- ── the open transaction ──
 

@@ -1,8 +1,8 @@
 // A session that steps over the words of a device, one action or one decision at a time.
 ghost use Rattle.mv_model.specs.History.{IsLegal};
-ghost use Rattle.engine_core.specs.LogicalState.{logical_state};
+ghost use Rattle.engine_core.specs.LogicalState.{logical_state, one_empty_table};
 ghost use Rattle.std.specs.Prelude.{false, ◌≡◌, ◌≢◌, ◌+◌, ◌-◌, ◌^◌, ◌<◌, [], IfOk, IfErr, IsTrue, ◌↔◌};
-ghost use Rattle.engine_core.specs.CoreState.{CoreState, ActsOnce, IsEvent, IsFormatted, Last, Nothing, Unplaced};
+ghost use Rattle.engine_core.specs.CoreState.{CoreState, ActsOnce, IsAnsweredButFor, IsEvent, IsFormatted, Last, Nothing, Unplaced};
 ghost use Rattle.engine_core.specs.declared.flight.Step.TheVariants.{Decided, Played, Replied};
 ghost use Rattle.engine_core.specs.Served.{is_served};
 
@@ -55,6 +55,7 @@ impl<M: Memory + Drop> Core<M> {
         requires { IsFormatted (M.device memory) }
         ensures memory { IfOk result (λ core. core.memory ≡ memory) }
         ensures opened { IfOk result (λ core. core.opened ≡ (M.device memory).cached) }
+        ensures state { IfOk result (λ core. logical_state core.opened ≡ one_empty_table) }
         ensures history { IfOk result (λ core. core.history ≡ []) }
         ensures in_flight { IfOk result (λ core. core.in_flight ≡ Nothing) }
         ensures played { IfOk result (λ core. core.played ≡ 0) }
@@ -98,7 +99,7 @@ impl<M: Memory> Core<M> {
         requires session { session ≡ 1 }
         requires in_flight { self.old.in_flight ≢ Nothing }
         ensures device { ActsOnce result 1 (M.device self.old.memory) (M.device self.new.memory) }
-        ensures event { IsEvent result self.old self.new }
+        ensures event { IsEvent result (M.device self.old.memory) (M.device self.new.memory) self.old self.new }
     {
         if self.actions_left() > 0 {
             self.play(session);
@@ -119,10 +120,12 @@ impl<M: Memory> Core<M> {
         !is_idle(&self.flight)
     }
 
-    /// The calls that have their place, in order, each with the reply that it was given or is to be given.
+    /// The calls that have their place, in order, each with the reply that it was given or is to be given. Only the last
+    /// of them may still wait for its reply.
     pub fn history(&self) -> &[Entry]
         ensures entries { result.now ≡ self.now.history }
         ensures legal { IsLegal (logical_state self.now.opened) self.now.history }
+        ensures answered { IsAnsweredButFor self.now.in_flight self.now.history }
     {
         self.history.as_slice()
     }
@@ -173,7 +176,7 @@ impl<M: Memory> Core<M> {
         requires session { session ≡ 1 }
         requires to_play { 0 < self.old.to_play }
         ensures device { ActsOnce Played 1 (M.device self.old.memory) (M.device self.new.memory) }
-        ensures event { IsEvent Played self.old self.new }
+        ensures event { IsEvent Played (M.device self.old.memory) (M.device self.new.memory) self.old self.new }
     {
         let Some(action) = next_action(&mut self.plan) else {
             unreachable!()
@@ -194,7 +197,7 @@ impl<M: Memory> Core<M> {
         requires unplaced { self.old.in_flight ≢ Last }
         requires to_play { self.old.to_play ≡ 0 }
         ensures device { self.new.memory ≡ self.old.memory }
-        ensures event { IsEvent Decided self.old self.new }
+        ensures event { IsEvent Decided (M.device self.old.memory) (M.device self.new.memory) self.old self.new }
     {
         let said = take_call(&mut self.flight);
         let decision = decide(
@@ -221,7 +224,7 @@ impl<M: Memory> Core<M> {
         requires placed { self.old.in_flight ≡ Last }
         requires to_play { self.old.to_play ≡ 0 }
         ensures device { self.new.memory ≡ self.old.memory }
-        ensures event { IsEvent (Replied result) self.old self.new }
+        ensures event { IsEvent (Replied result) (M.device self.old.memory) (M.device self.new.memory) self.old self.new }
     {
         let reply = take_reply(&mut self.flight);
         mark_answered(&mut self.history);

@@ -1,10 +1,10 @@
-use Rattle.std.proofs.Common.{◌≡◌, ◌∙◌, ℕ, ◌+◌, ◌<◌, ◌≤◌, get_or, length, refl, ap, sym, arith}
+use Rattle.std.proofs.Common.{◌≡◌, ◌∙◌, ℕ, get_or, refl, ap, sym, arith}
 use Rattle.mv_model.specs.declared.call.Call.TheVariants as call
 use Rattle.mv_model.specs.declared.reply.Reply.TheVariants as reply
 use Rattle.pm_model.specs.Fixed.{last_at}
 use Rattle.engine_core.specs.Stage.{high_at}
 use Rattle.engine_core.proofs.Answered.{closes, spent, stands}
-use Rattle.engine_core.proofs.Commits.{commit-decided}
+use Rattle.engine_core.proofs.Commits.{commit-decided, commit-planned}
 use Rattle.engine_core.proofs.decision.commit.Goals as goal
 
 pub returns-then-own-eq0 : goal.returns-then-own-eq0
@@ -27,5 +27,11 @@ returns g c =
       copied = c.in_ok-copy.ensures;
       decided = commit-decided words c.args.begun c.args.own.number c.args.own.rows c.load-first.result c.load-last.result c.requires (sym is_high) (sym is_last) (omega (arith, c.if-own-eq0.false)) (omega (arith, c.if-last-ge-MAX_COMMITS.false)) _ c.in_ok-made.made.plan.left refl c.in_ok-made.ensures.left
           (omega (arith, c.in_ok-made.ensures.actions));
-      late = (refl, refl, c.in_ok-made.ensures.later);
+      late = (
+        refl,
+        refl,
+        c.in_ok-made.ensures.later,
+        commit-planned words c.args.begun c.args.own.number c.args.own.rows c.load-first.result c.load-last.result c.requires (sym is_high) (sym is_last) (omega (arith, c.if-own-eq0.false)) (omega (arith, c.if-last-ge-MAX_COMMITS.false)) _
+            c.in_ok-made.made.late c.in_ok-made.made.plan.left refl c.in_ok-made.ensures.left c.in_ok-made.ensures.late,
+      );
     }

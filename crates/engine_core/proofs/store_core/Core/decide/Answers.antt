@@ -1,4 +1,4 @@
-use Rattle.std.proofs.Common.{◌≡◌, ◌≢◌, ◌∙◌, ◌+◌, ◌-◌, ◌<◌, ◌≤◌, ℕ, List, [], length, ap, sym, subst, refl, arith}
+use Rattle.std.proofs.Common.{◌≡◌, ◌≢◌, ◌+◌, ◌-◌, List, length, ap, sym, subst, refl, arith}
 use Rattle.pm_model.specs.declared.action.Action.{Action}
 use Rattle.mv_model.specs.State.{State}
 use Rattle.engine_core.specs.CoreState.{Moves, Nothing, in_flight_of, pending}
@@ -47,10 +47,10 @@ returns-clause-event g c =
     let state = state_now inside.opened.items d inside.history.items inside.transactions said inside.events_left inside.played inside.started kept in
     let full = subst (λ (s : State). IsFullWhere s decision.reply) (sym state) c.decide-decision.ensures.decided.full in
     let moves = decides-moves _ inside.memory inside.memory inside.opened.items inside.history.items c.enter-entered.new.history.items (length left) (length (left_of decision.plan))
-    inside.events_left (inside.events_left - 1) inside.played inside.played inside.started said decision.reply decision.copy decision.late c.enter-entered.result (left_of decision.plan)
+    inside.events_left (inside.events_left - 1) inside.played inside.played inside.started d.cached said decision.reply decision.copy decision.late c.enter-entered.result (left_of decision.plan)
     c.decide-decision.ensures.late c.enter-entered.ensures.entered kept.count full in
     rw (← c.self.view_is, c.put_flight.ensures) (record {
-      moves = subst (λ (f : Flight). Moves Decided
+      moves = subst (λ (f : Flight). Moves Decided d d
           (core_of inside.memory inside.opened.items inside.history.items f (length left) inside.events_left inside.played inside.started)
           (core_of inside.memory inside.opened.items c.enter-entered.new.history.items c.enter-entered.result (length (left_of decision.plan)) (inside.events_left - 1) inside.played inside.started))
           (sym c.take_call-said.ensures.call) moves;

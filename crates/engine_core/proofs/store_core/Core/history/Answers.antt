@@ -1,4 +1,8 @@
+use Rattle.engine_core.proofs.CoreSteps.{answers-seen}
 use Rattle.engine_core.proofs.store_core.Core.history.Goals as goal
 
 pub returns-clause-legal : goal.returns-clause-legal
 returns-clause-legal g c = rw (← c.self.view_is) c.self.invariant.0.legal
+
+pub returns-clause-answered : goal.returns-clause-answered
+returns-clause-answered g c = rw (← c.self.view_is) (answers-seen c.self.inside.flight c.self.inside.history.items c.self.invariant.0.answers)

@@ -1,4 +1,4 @@
-use Rattle.std.proofs.Common.{◌≡◌, ◌∙◌, ◌+◌, ◌-◌, ◌<◌, ◌≤◌, ℕ, length, ap, subst, refl, arith}
+use Rattle.std.proofs.Common.{◌≡◌, ◌∙◌, ◌+◌, ◌-◌, ◌<◌, ℕ, length, ap, subst, refl, arith}
 use Rattle.pm_model.specs.Device.{acted}
 use Rattle.engine_core.specs.CoreState.{IsPlacedAt}
 use Rattle.engine_core.specs.Decided.{left_of}
@@ -40,10 +40,11 @@ returns-clause-event g c =
     let some : 0 < length left = rw (← c.self.view_is) at c.requires.to_play in
     let event = one-event inside.flight left inside.events_left (busy inside.flight left inside.events_left some kept.bounded) kept.bounded in
     let rest = left_of c.next_action.new.plan in
+    let acts = c.act.ensures ∙ ap (λ (s : ℕ). acted s c.in-Some.action (g.M.Memory.device inside.memory)) c.requires.session in
     let places = subst (λ (n : ℕ). IsPlacedAt n inside.flight c.place_commit.new.flight inside.history.items c.place_commit.new.history.items) c.actions_left.ensures c.place_commit.ensures.placed in
     rw (← c.self.view_is) (record {
       moves = plays-moves _ inside.memory c.act.new.self inside.opened.items inside.history.items c.place_commit.new.history.items (length left) (length rest) inside.events_left (inside.events_left - 1) inside.played (inside.played + 1) inside.started
-          inside.flight c.place_commit.new.flight places kept.count;
+          (g.M.Memory.device inside.memory) (g.M.Memory.device c.act.new.self) left rest c.in-Some.action inside.flight c.place_commit.new.flight c.in-Some.ensures.first refl acts kept.commit places kept.count;
       opened = refl;
       started = refl;
       events = omega (arith, event);
