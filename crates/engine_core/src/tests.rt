@@ -67,7 +67,8 @@ fn new_core(alloc: Global) -> Result<Core<Plain>, NoMemory> {
 fn a_transaction_plays_27_actions(rt: HostRuntime) -> Result<(), Fail> {
     let mut core = new_core(rt.alloc())?;
     assert_eq!(rt; run_call(&mut core, Call::Begin)?, 3);
-    assert_eq!(rt; run_call(&mut core, insert(rt.alloc(), 7)?)?, 6);
+    let said = insert(rt.alloc(), 7)?;
+    assert_eq!(rt; run_call(&mut core, said.copy()?)?, 6);
     assert_eq!(rt; run_call(&mut core, get(0))?, 0);
     assert_eq!(rt; run_call(&mut core, Call::Commit)?, 18);
     let history = core.history();
