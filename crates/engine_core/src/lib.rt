@@ -6,6 +6,7 @@ mod flight;
 mod layout;
 mod plans;
 mod stage;
+mod stage_table;
 mod store_core;
 #[cfg(test)]
 mod tests;

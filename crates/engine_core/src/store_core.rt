@@ -1,18 +1,20 @@
 // A session that steps over the words of a device, one action or one decision at a time.
 ghost use Rattle.mv_model.specs.History.{IsLegal};
 ghost use Rattle.engine_core.specs.LogicalState.{logical_state, one_empty_table};
-ghost use Rattle.std.specs.Prelude.{false, ◌≡◌, ◌≢◌, ◌+◌, ◌-◌, ◌^◌, ◌<◌, [], IfOk, IfErr, IsTrue, ◌↔◌};
+ghost use Rattle.std.specs.Prelude.{false, ◌≡◌, ◌≢◌, ◌+◌, ◌-◌, ◌^◌, ◌<◌, [], length, IfOk, IfErr, IsTrue, ◌↔◌};
 ghost use Rattle.engine_core.specs.CoreState.{CoreState, ActsOnce, IsAnsweredButFor, IsEvent, IsFormatted, Last, Nothing, Unplaced};
 ghost use Rattle.engine_core.specs.declared.flight.Step.TheVariants.{Decided, Played, Replied};
 ghost use Rattle.engine_core.specs.Served.{is_served};
+ghost use Rattle.mv_model.specs.Answer.{columns_of, table_named};
 
 use crate::decision::decide;
 use crate::flight::{
     Flight, Step, actions_left, enter, is_idle, is_placed, mark_answered, next_action,
     place_commit, put_flight, take_call, take_reply,
 };
+use crate::stage_table::{stage_shape, table_name};
 use crate::transactions::Transactions;
-use mv_model::{Call, Entry, Reply};
+use mv_model::{Call, Entry, Name, Reply, Shape};
 use pm_model::{Keep, Memory, NoMemory, Plan};
 use std::alloc::Global;
 use std::marker::Model;
@@ -33,20 +35,23 @@ pub struct Core<M: Memory> {
     events_left: u32,
     played: u64,
     started: u32,
+    shape: Shape,
 }
 
 impl<M: Memory> Model for Core<M> {
-    ghost use Rattle.std.specs.Prelude.{◌+◌, ◌≤◌, length, vec_len, vec_capacity};
+    ghost use Rattle.std.specs.Prelude.{◌≡◌, ◌+◌, ◌≤◌, length, vec_len, vec_capacity};
     ghost use Rattle.engine_core.specs.CoreState.{CoreState, in_flight_of, pending};
     ghost use Rattle.engine_core.specs.Decided.{left_of};
     ghost use Rattle.engine_core.specs.Kept.{IsKept};
+    ghost use Rattle.engine_core.specs.LogicalState.{columns};
 
     ghost Value = { CoreState M };
 
     ghost view = { λ c. record { memory = c.memory; opened = c.opened.items; history = c.history.items; in_flight = in_flight_of c.flight; to_play = length (left_of c.plan); events_left = c.events_left; played = c.played; started = c.started } };
 
     ghost invariant = { λ c. IsKept (M.device c.memory) c.opened.items c.history.items c.transactions (left_of c.plan) c.flight c.events_left c.played c.started
-        × (pending c.flight + vec_len c.history ≤ vec_capacity c.history) };
+        × (pending c.flight + vec_len c.history ≤ vec_capacity c.history)
+        × (c.shape ≡ columns) };
 }
 
 impl<M: Memory + Drop> Core<M> {
@@ -72,6 +77,7 @@ impl<M: Memory + Drop> Core<M> {
             events_left: 0,
             played: 0,
             started: 0,
+            shape: stage_shape(),
         })
     }
 }
@@ -155,6 +161,22 @@ impl<M: Memory> Core<M> {
         ensures { result ≡ self.now.started }
     {
         self.started
+    }
+
+    /// The number of the table with this name, from 0, if there is one.
+    pub fn table(&self, name: &Name) -> Option<u32>
+        ensures { result ≡ table_named (logical_state self.now.opened) name.now }
+    {
+        if *name == table_name() { Some(0) } else { None }
+    }
+
+    /// The columns of a table.
+    pub fn shape(&self, table: u32) -> &Shape
+        requires { table < length (logical_state self.now.opened).tables }
+        ensures { result.now ≡ columns_of (logical_state self.now.opened) table }
+    {
+        let _table = table;
+        &self.shape
     }
 
     // How many actions of the plan in play are left.

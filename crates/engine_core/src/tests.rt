@@ -54,6 +54,10 @@ fn run_call<M: Memory>(core: &mut Core<M>, said: Call) -> Result<u64, Fail>
     Ok(core.played().saturating_sub(before))
 }
 
+fn has_the_table<M: Memory>(core: &Core<M>) -> bool {
+    core.table(&table()) == Some(0) && core.shape(0).columns().len() == 1
+}
+
 fn reply_at(history: &[Entry], place: usize) -> Option<&Reply> {
     history.get(place).map(|entry| &entry.reply)
 }
@@ -71,6 +75,7 @@ fn a_transaction_plays_27_actions(rt: HostRuntime) -> Result<(), Fail> {
     assert_eq!(rt; run_call(&mut core, said.copy()?)?, 6);
     assert_eq!(rt; run_call(&mut core, get(0))?, 0);
     assert_eq!(rt; run_call(&mut core, Call::Commit)?, 18);
+    assert!(rt; has_the_table(&core));
     let history = core.history();
     assert_eq!(rt; history.len(), 4);
     assert!(rt; history.iter().all(|entry| entry.answered));

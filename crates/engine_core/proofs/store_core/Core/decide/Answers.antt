@@ -30,7 +30,7 @@ invariant_of-self g c =
     let before = kept.count in
     let after = now.count in
     let size = ap pending c.take_call-said.ensures.call in
-    rw c.put_flight.ensures (now, omega (arith, before, after, size, c.self.invariant.1, c.enter-entered.ensures.capacity, inside.history.ok.0, c.enter-entered.new.history.ok.0))
+    rw c.put_flight.ensures (now, omega (arith, before, after, size, c.self.invariant.1, c.enter-entered.ensures.capacity, inside.history.ok.0, c.enter-entered.new.history.ok.0), c.self.invariant.2)
 
 pub returns-clause-event : goal.returns-clause-event
 returns-clause-event g c =

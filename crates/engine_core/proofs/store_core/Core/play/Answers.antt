@@ -30,7 +30,7 @@ invariant_of-self g c =
     inside.events_left (inside.events_left - 1) inside.played inside.started c.in-Some.ensures.first acts one places kept in
     let before = kept.count in
     let after = now.count in
-    (now, omega (arith, before, after, c.self.invariant.1, c.place_commit.ensures.capacity, inside.history.ok.0, c.place_commit.new.history.ok.0))
+    (now, omega (arith, before, after, c.self.invariant.1, c.place_commit.ensures.capacity, inside.history.ok.0, c.place_commit.new.history.ok.0), c.self.invariant.2)
 
 pub returns-clause-event : goal.returns-clause-event
 returns-clause-event g c =

@@ -21,4 +21,4 @@ invariant_of-self g c =
     let now = replies inside.opened.items d inside.history.items c.mark_answered.new.history.items inside.transactions given inside.events_left (inside.events_left - 1) inside.played inside.started (omega (arith, event)) c.mark_answered.ensures.items kept in
     let before = kept.count in
     let after = now.count in
-    rw (none-left left none, c.take_reply-reply.ensures.taken) (now, omega (arith, before, after, c.self.invariant.1, c.mark_answered.ensures.capacity, inside.history.ok.0, c.mark_answered.new.history.ok.0))
+    rw (none-left left none, c.take_reply-reply.ensures.taken) (now, omega (arith, before, after, c.self.invariant.1, c.mark_answered.ensures.capacity, inside.history.ok.0, c.mark_answered.new.history.ok.0), c.self.invariant.2)
