@@ -12,16 +12,6 @@ use std::alloc::Global;
 // The actions of a part of one store: the store, a flush and a fence.
 const STORE_ACTIONS: u32 = 3;
 
-// Adds a part of one store.
-fn push_store(plan: &mut Plan, place: Place, value: u64)
-    requires { 3 ≤ plan.old.spare }
-    ensures left { plan.new.left ≡ plan.old.left ++ part_actions (one_store place.0 value) }
-    ensures spare { plan.new.spare + 3 ≡ plan.old.spare }
-{
-    plan.push(Action::Store { place, value });
-    plan.end_part(1);
-}
-
 /// A plan that opens the session's transaction object. It has 3 actions.
 pub fn plan_begin(alloc: Global, session: u8) -> Result<Plan, NoMemory>
     requires first { 1 ≤ session }
@@ -29,7 +19,7 @@ pub fn plan_begin(alloc: Global, session: u8) -> Result<Plan, NoMemory>
     ensures { IfOk result (λ plan. plan.left ≡ plan_of (begin_parts (session - 1))) }
 {
     let mut plan = Plan::with_room(alloc, STORE_ACTIONS)?;
-    push_store(&mut plan, object_state(session - 1), 1);
+    plan.push_store(object_state(session - 1), 1);
     Ok(plan)
 }
 
@@ -78,7 +68,7 @@ pub fn push_entry(plan: &mut Plan, session: u8, nth: u32, entry: Entry)
     ensures left { plan.new.left ≡ plan.old.left ++ part_actions (entry_part (session - 1) nth entry) }
     ensures spare { plan.new.spare + 3 ≡ plan.old.spare }
 {
-    push_store(plan, entry_word(session - 1, nth as u8), entry.word());
+    plan.push_store(entry_word(session - 1, nth as u8), entry.word());
 }
 
 /// How many actions `push_retire` adds.
@@ -104,7 +94,7 @@ pub fn push_retire(plan: &mut Plan, session: u8, entries: u32, word: bool)
     ensures spare { plan.new.spare + retire_length entries word ≡ plan.old.spare }
 {
     let object = session - 1;
-    push_store(plan, object_state(object), 0);
+    plan.push_store(object_state(object), 0);
     if entries > 0 || word {
         push_clear(plan, object, entries, word);
     }
