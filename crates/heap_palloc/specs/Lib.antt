@@ -1,0 +1,9 @@
+pub mod Calls
+pub mod Choice
+pub mod Index
+pub mod Lane
+pub mod Law
+pub mod PageLists
+pub mod Parts
+pub mod Rising
+pub mod Shown

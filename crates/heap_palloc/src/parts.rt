@@ -1,0 +1,149 @@
+// The parts of the plans of the heap, added to a plan.
+ghost use Rattle.std.specs.Prelude.{◌≡◌, ◌+◌, ◌*◌, ◌^◌, ◌<◌, ◌≤◌, ◌++◌, length};
+ghost use Rattle.std.specs.List.{range_with_len};
+ghost use Rattle.pm_model.specs.Pointer.{pointer_word};
+ghost use Rattle.pm_model.specs.Plans.{part_actions, plan_of, one_store, unless_empty};
+ghost use Rattle.pm_model.specs.Fixed.{lane_at, lane_op_at};
+ghost use Rattle.heap_palloc.specs.Lane.{mark_at};
+ghost use Rattle.heap_palloc.specs.Parts.{Allocation, lane_part, allocation_parts, freeing_parts, new_page_parts, free_page_parts, forget_given_back};
+
+use heap_big::Run;
+use pm_model::{
+    Action, Memory, PAGE_WORDS, PPtr, Page, Place, Plan, descriptor, lane_block, lane_dest, lane_op,
+};
+
+// The actions of a part of one store: the store, a flush and a fence.
+pub(crate) const STORE_ACTIONS: u32 = 3;
+
+// No more than the two stores, two flushes and the fence of the lane's part, and four parts of one store.
+pub(crate) const ALLOCATION_ACTIONS: u32 = 5 + 4 * STORE_ACTIONS;
+
+pub(crate) const NEW_PAGE_ACTIONS: u32 = 2 * STORE_ACTIONS;
+
+/// The head of a big block of n pages has the descriptor `BIG_HEAD` + n, and a small page `SMALL_PAGE` + its class.
+pub(crate) const BIG_HEAD: u64 = 16;
+
+pub(crate) const SMALL_PAGE: u64 = 2;
+
+// A free page that was given back.
+const GIVEN_BACK: u64 = 1;
+
+/// Adds a part of one store.
+pub(crate) fn push_store(plan: &mut Plan, place: Place, value: u64)
+    requires { 3 ≤ plan.old.spare }
+    ensures left { plan.new.left ≡ plan.old.left ++ part_actions (one_store place.0 value) }
+    ensures spare { plan.new.spare + 3 ≡ plan.old.spare }
+{
+    plan.push(Action::Store { place, value });
+    plan.end_part(1);
+}
+
+/// The word that says whether a block is allocated.
+pub(crate) fn mark_of(block: Place) -> Place
+    requires { block.0 < 4194304 }
+    ensures { result.0 ≡ mark_at block.0 }
+{
+    let page = block.0 / PAGE_WORDS;
+    if block.0 % PAGE_WORDS == 0 {
+        descriptor(Page(page as u16))
+    } else {
+        Place(PAGE_WORDS * page)
+    }
+}
+
+/// Adds the part in which a lane gets the owner and the block.
+pub(crate) fn push_lane(plan: &mut Plan, lane: u8, owner: Place, block: Place)
+    requires lane { lane < 16 }
+    requires owner { owner.0 < 4194304 }
+    requires block { block.0 < 4194304 }
+    requires room { 5 ≤ plan.old.spare }
+    ensures left { plan.new.left ≡ plan.old.left ++ part_actions (lane_part (record { lane = lane; owner = owner.0; block = block.0; marked = 0 })) }
+    ensures spare { plan.old.spare ≤ plan.new.spare + 5 }
+{
+    plan.push(Action::Store {
+        place: lane_dest(lane),
+        value: PPtr::of(owner).word(),
+    });
+    plan.push(Action::Store {
+        place: lane_block(lane),
+        value: PPtr::of(block).word(),
+    });
+    plan.end_part(2);
+}
+
+/// Adds an allocation, whose mark becomes `marked`.
+pub(crate) fn push_allocation(plan: &mut Plan, lane: u8, owner: Place, block: Place, marked: u64)
+    requires lane { lane < 16 }
+    requires owner { owner.0 < 4194304 }
+    requires block { block.0 < 4194304 }
+    requires room { 17 ≤ plan.old.spare }
+    ensures left { plan.new.left ≡ plan.old.left ++ plan_of (allocation_parts (record { lane = lane; owner = owner.0; block = block.0; marked = marked })) }
+    ensures spare { plan.old.spare ≤ plan.new.spare + 17 }
+{
+    push_lane(plan, lane, owner, block);
+    push_store(plan, lane_op(lane), 1);
+    push_store(plan, mark_of(block), marked);
+    push_store(plan, owner, PPtr::of(block).word());
+    push_store(plan, lane_op(lane), 0);
+}
+
+/// Adds a freeing, whose mark becomes `clear`.
+pub(crate) fn push_freeing(plan: &mut Plan, lane: u8, owner: Place, block: Place, clear: u64)
+    requires lane { lane < 16 }
+    requires owner { owner.0 < 4194304 }
+    requires block { block.0 < 4194304 }
+    requires room { 17 ≤ plan.old.spare }
+    ensures left { plan.new.left ≡ plan.old.left ++ plan_of (freeing_parts (record { lane = lane; owner = owner.0; block = block.0; marked = 0 }) clear) }
+    ensures spare { plan.old.spare ≤ plan.new.spare + 17 }
+{
+    push_lane(plan, lane, owner, block);
+    push_store(plan, lane_op(lane), 2);
+    push_store(plan, owner, 0);
+    push_store(plan, mark_of(block), clear);
+    push_store(plan, lane_op(lane), 0);
+}
+
+/// Adds the parts in which a free page becomes a small page.
+pub(crate) fn push_new_page(plan: &mut Plan, page: Page, class: u8)
+    requires page { page.0 < 8192 }
+    requires class { class < 6 }
+    requires room { 6 ≤ plan.old.spare }
+    ensures left { plan.new.left ≡ plan.old.left ++ plan_of (new_page_parts page.0 class) }
+    ensures spare { plan.new.spare + 6 ≡ plan.old.spare }
+{
+    push_store(plan, Place(PAGE_WORDS * u32::from(page.0)), 0);
+    push_store(plan, descriptor(page), SMALL_PAGE + u64::from(class));
+}
+
+/// Adds the part that stores 0 over the descriptors of those pages of a run that were given back, where there are any.
+pub(crate) fn push_forgetting<M: Memory>(plan: &mut Plan, mem: &M, run: Run)
+    requires in_image { 512 * (run.first + run.pages) ≤ length (M.device mem.now).cached }
+    requires room { 2 * run.pages + 1 ≤ plan.old.spare }
+    ensures left { plan.new.left ≡ plan.old.left ++ plan_of (unless_empty (forget_given_back (M.device mem.now).cached (range_with_len run.first run.pages))) }
+    ensures spare { plan.old.spare ≤ plan.new.spare + (2 * run.pages + 1) }
+{
+    let count = push_given_back(plan, mem, run);
+    if count > 0 {
+        plan.end_part(count);
+    }
+}
+
+// Adds the stores of that part, and gives how many there are.
+fn push_given_back<M: Memory>(plan: &mut Plan, mem: &M, run: Run) -> u32
+    requires in_image { 512 * (run.first + run.pages) ≤ length (M.device mem.now).cached }
+    requires room { run.pages ≤ plan.old.spare }
+    ensures left { plan.new.left ≡ plan.old.left ++ forget_given_back (M.device mem.now).cached (range_with_len run.first run.pages) }
+    ensures count { result ≡ length (forget_given_back (M.device mem.now).cached (range_with_len run.first run.pages)) }
+    ensures most { result ≤ run.pages }
+    ensures spare { plan.new.spare + result ≡ plan.old.spare }
+{
+    let mut count = 0;
+    for page in 0..run.pages {
+        let place = descriptor(Page(run.first + page as u16));
+        if mem.load(place) == GIVEN_BACK {
+            plan.push(Action::Store { place, value: 0 });
+            count += 1;
+        }
+    }
+    count
+}
