@@ -1,0 +1,314 @@
+-- The plan that mends a lane leaves the words with the lane mended, and so does each cut of it once it is mended anew.
+use Rattle.std.proofs.Common.{◌≡◌, ◌≢◌, ◌⊎◌, inl, inr, ⊎_elim, ℕ, ◌-◌, ◌%◌, ◌<◌, ◌≤◌, Bool, true, false, not, ◌&&◌, cond, ltb, eqb, List, [], ◌∷◌, length, get_or, set, refl, sym, ◌∙◌, ap, subst, arith}
+use Rattle.std.proofs.lemmas.List.{get_or-set_same, get_or-set_other, length-set, set-get_or}
+use Rattle.std.proofs.lemmas.Bool.{cases_Bool, cases_eq, eqb-false, ltb-false, eq-eqb, ne_eqb, and_parts, not-true, or_left, or_right, both_ways, cond-true, cond-false}
+use Rattle.pm_model.specs.declared.action.Action.{Action}
+use Rattle.pm_model.specs.Device.{Device}
+use Rattle.pm_model.specs.Fixed.{descriptor_at, lane_op_at, lane_dest_at, lane_block_at}
+use Rattle.pm_model.specs.Places.{page_of, page_at, place_in}
+use Rattle.pm_model.specs.Plans.{Part, IsPlan, EachCut, Play, IsPlaying, IsCrashImageWithin, IsTakenBack, finished}
+use Rattle.pm_model.specs.Blocks.{slots_of, slot_in, class_of, is_reserved, is_small_page, is_slot}
+use Rattle.pm_model.proofs.Cuts.{cut-one_store}
+use Rattle.pm_model.proofs.PlanLaw.{plan_survives_parts}
+use Rattle.heap_small.specs.Bitmap.{without_bit}
+use Rattle.heap_small.proofs.Bitmaps.{without_bit-same}
+use Rattle.heap_palloc.specs.Lane.{is_big_place, mark_at, unmarked, released, mended_by, mended_lane}
+use Rattle.heap_palloc.specs.Shown.{IsOutsideLane}
+use Rattle.heap_palloc.specs.Law.{IsOwnerPlace}
+use Rattle.heap_palloc.proofs.Slots.{without_bit-clear, descriptor_outside-lane, bitmap_outside-lane}
+use Rattle.heap_palloc.proofs.Stages.{mended-idle}
+use Rattle.pmem_recover.specs.declared.change.Change.{Change}
+use Rattle.pmem_recover.specs.Changes.{change, change_parts}
+use Rattle.pmem_recover.specs.Lanes.{release, idle, lane_changes, lane_parts, MayMend}
+use Rattle.pmem_recover.proofs.Changes.{AreWithin, needed-finished, needed-cuts, needed-plan}
+use Rattle.pmem_recover.proofs.LaneChanges.{AtWork, at_work, pointer_parts, block_pointer, block_page, block_slot, changes-freeing, changes-done, changes-undone, parts-are, none-idle, ended-idle}
+
+-- ── the block of a lane ──
+
+-- Its mark stands in the image, apart from the lanes and, where the block is small, from its page's descriptor.
+pub record HasMark (size lane block : ℕ) : Type 0 where
+  pub within : mark_at block < size
+  pub outside : IsOutsideLane lane (mark_at block)
+  pub two_words : (is_big_place block ≡ true) ⊎ (descriptor_at (page_of block) ≢ mark_at block)
+
+unreserved : (page : ℕ) → not (is_reserved page) ≡ true → (page % 64 ≢ 0) × (4 ≤ page)
+unreserved page free =
+    let none : is_reserved page ≡ false = not-true (is_reserved page) free in (
+      λ e. absurd (both_ways (is_reserved page) none (or_left (eqb (page % 64) 0) (ltb page 4) (eq-eqb (page % 64) 0 e))),
+      ⊎_elim (λ low. absurd (both_ways (is_reserved page) none (or_right (eqb (page % 64) 0) (ltb page 4) low))) (λ high. ltb-false page 4 high) (cases_Bool (ltb page 4)),
+    )
+
+pub has_mark : (size lane block : ℕ) → lane < 16 → block < size → not (is_reserved (page_of block)) ≡ true → HasMark size lane block
+has_mark size lane block lt within free = ⊎_elim big small (cases_Bool (is_big_place block))
+  where
+    big : is_big_place block ≡ true → HasMark size lane block
+    big is =
+        let mark_is : mark_at block ≡ descriptor_at (page_of block) = cond-true (is_big_place block) _ _ is in
+        record {
+          within = omega (arith, mark_is, within);
+          outside = subst (IsOutsideLane lane) (sym mark_is) (descriptor_outside-lane lane (page_of block) lt);
+          two_words = inl is;
+        }
+
+    small : is_big_place block ≡ false → HasMark size lane block
+    small is =
+        let mark_is : mark_at block ≡ page_at (page_of block) = cond-false (is_big_place block) _ _ is in
+        let page_is = unreserved (page_of block) free in
+        record {
+          within = omega (arith, mark_is, within);
+          outside = subst (IsOutsideLane lane) (sym mark_is) (bitmap_outside-lane lane (page_of block) lt);
+          two_words = inr (λ e. page_is.0 (omega (arith, sym e ∙ e, e ∙ mark_is)));
+        }
+
+-- a mark that is clear stays so where it is cleared again
+pub unmarked-again : (block descriptor mark : ℕ) → unmarked block descriptor (unmarked block descriptor mark) ≡ unmarked block descriptor mark
+unmarked-again block descriptor mark = by_size (is_big_place block)
+  where
+    by_size : (big : Bool) → cond big 0 (without_bit (cond big 0 (without_bit mark (slot_in (descriptor - 2) block))) (slot_in (descriptor - 2) block)) ≡ cond big 0 (without_bit mark (slot_in (descriptor - 2) block))
+    by_size true = refl
+    by_size false = without_bit-clear _ _ (without_bit-same mark (slot_in (descriptor - 2) block))
+
+-- a block is released already where its mark is clear
+pub released-again : (words image : List ℕ) (block : ℕ) → (is_big_place block ≡ true) ⊎ (get_or image (descriptor_at (page_of block)) 0 ≡ get_or words (descriptor_at (page_of block)) 0)
+    → get_or image (mark_at block) 0 ≡ unmarked block (get_or words (descriptor_at (page_of block)) 0) (get_or words (mark_at block) 0) → released block image ≡ image
+released-again words image block same clear =
+    let clear_is = unmarked-again block (get_or words (descriptor_at (page_of block)) 0) (get_or words (mark_at block) 0) in
+    ap (set image (mark_at block)) (⊎_elim
+    (λ big. cond-true (is_big_place block) 0 _ big ∙ sym (clear ∙ cond-true (is_big_place block) 0 _ big))
+    (λ e. ap (λ (d : ℕ). unmarked block d (get_or image (mark_at block) 0)) e ∙ ap (unmarked block (get_or words (descriptor_at (page_of block)) 0)) clear ∙ clear_is ∙ sym clear)
+    same) ∙ set-get_or image (mark_at block) 0
+
+-- ── a lane at work ──
+
+pub mended-is : (lane : ℕ) (words : List ℕ) (op dest block : ℕ) → get_or words (lane_op_at lane) 0 ≡ op → get_or words (lane_dest_at lane) 0 ≡ dest → get_or words (lane_block_at lane) 0 ≡ block
+    → mended_lane lane words ≡ mended_by lane op (place_in dest) block words
+unfolding mended_lane
+mended-is lane words op dest block op_is dest_is block_is =
+    ap (λ (n : ℕ). mended_by lane n (place_in (get_or words (lane_dest_at lane) 0)) (get_or words (lane_block_at lane) 0) words) op_is
+    ∙ ap (λ (p : ℕ). mended_by lane op (place_in p) (get_or words (lane_block_at lane) 0) words) dest_is
+    ∙ ap (λ (p : ℕ). mended_by lane op (place_in dest) p words) block_is
+
+-- what a list of changes does to a lane: it leaves the lane mended, and so does each cut of it
+pub record Mends (words : List ℕ) (lane : ℕ) (changes : List Change) : Type 0 where
+  pub within : AreWithin (length words) changes
+  pub mends : finished (change_parts changes) words ≡ mended_lane lane words
+  pub cuts : EachCut (λ image. mended_lane lane image ≡ mended_lane lane words) (change_parts changes) words
+
+module _ (words : List ℕ) (lane : ℕ) (lt : lane < 16) (lanes : 704 ≤ length words) where
+  abbrev dest : ℕ
+  dest = get_or words (lane_dest_at lane) 0
+
+  abbrev pointer : ℕ
+  pointer = get_or words (lane_block_at lane) 0
+
+  abbrev owner : ℕ
+  owner = place_in (get_or words (lane_dest_at lane) 0)
+
+  abbrev block : ℕ
+  block = place_in (get_or words (lane_block_at lane) 0)
+
+  abbrev Has : List ℕ → Type 0
+  Has image = mended_lane lane image ≡ mended_lane lane words
+
+  abbrev clear : ℕ
+  clear = unmarked (place_in (get_or words (lane_block_at lane) 0)) (get_or words (descriptor_at (page_of (place_in (get_or words (lane_block_at lane) 0)))) 0) (get_or words (mark_at (place_in (get_or words (lane_block_at lane) 0))) 0)
+
+  op_in : lane_op_at lane < length words
+  op_in = omega (arith, lt, lanes)
+
+  -- the last words are those of a lane that is idle
+  at_end : (image : List ℕ) → length image ≡ length words → set image (lane_op_at lane) 0 ≡ mended_lane lane words → Has (set image (lane_op_at lane) 0)
+  at_end image size is = mended-idle lane (set image (lane_op_at lane) 0) (get_or-set_same image (lane_op_at lane) 0 0 (subst (λ (n : ℕ). lane_op_at lane < n) (sym size) op_in)) ∙ is
+
+  pub done_mends : get_or words (lane_op_at lane) 0 ≡ 1 → get_or words owner 0 ≡ pointer → Mends words lane (idle lane ∷ [])
+  done_mends one owned =
+      let ends : set words (lane_op_at lane) 0 ≡ mended_lane lane words = sym (mended-is lane words 1 dest pointer one refl refl
+      ∙ ap (λ (ws : List ℕ). set ws (lane_op_at lane) 0) (cond-true (eqb (get_or words owner 0) pointer) words _ (eq-eqb _ _ owned))) in
+      record {
+        within = (op_in, tt);
+        mends = ends;
+        cuts = (cut-one_store Has (lane_op_at lane) 0 words refl (at_end words refl ends), at_end words refl ends);
+      }
+
+  module _ (mark : HasMark (length words) lane block) where
+    -- the words with the block released
+    abbrev freed_words : List ℕ
+    freed_words = set words (mark_at block) clear
+
+    mark_kept : (place : ℕ) → place ≢ mark_at block → get_or freed_words place 0 ≡ get_or words place 0
+    mark_kept place apart = get_or-set_other words (mark_at block) place clear 0 apart
+
+    pub undone_mends : get_or words (lane_op_at lane) 0 ≡ 1 → get_or words owner 0 ≢ pointer → Mends words lane (release words block ∷ idle lane ∷ [])
+    undone_mends one apart = record {
+      within = (mark.within, (op_in, tt));
+      mends = ends;
+      cuts = (
+        cut-one_store Has (mark_at block) clear words refl half,
+        (cut-one_store Has (lane_op_at lane) 0 freed_words half last, last),
+      );
+    }
+      where
+        ends : set freed_words (lane_op_at lane) 0 ≡ mended_lane lane words
+        ends = sym (mended-is lane words 1 dest pointer one refl refl
+            ∙ ap (λ (ws : List ℕ). set ws (lane_op_at lane) 0) (cond-false (eqb (get_or words owner 0) pointer) words _ (ne_eqb _ _ apart)))
+
+        last : Has (set freed_words (lane_op_at lane) 0)
+        last = at_end freed_words (length-set words (mark_at block) clear) ends
+
+        again : released block freed_words ≡ freed_words
+        again = released-again words freed_words block (⊎_elim (λ big. inl big) (λ two. inr (mark_kept _ two)) mark.two_words) (get_or-set_same words (mark_at block) clear 0 mark.within)
+
+        undone_is : (owned : Bool) → cond owned freed_words (released block freed_words) ≡ freed_words
+        undone_is true = refl
+        undone_is false = again
+
+        half : Has freed_words
+        half =
+            mended-is lane freed_words 1 dest pointer (mark_kept _ (λ e. mark.outside.0 (sym e)) ∙ one) (mark_kept _ (λ e. mark.outside.1 (sym e))) (mark_kept _ (λ e. mark.outside.2 (sym e)))
+            ∙ ap (λ (ws : List ℕ). set ws (lane_op_at lane) 0) (undone_is (eqb (get_or freed_words owner 0) pointer))
+            ∙ ends
+
+    module _ (owner_in : owner < length words) (owner_outside : IsOutsideLane lane owner) (no_mark : owner ≢ mark_at block) (no_descriptor : owner ≢ descriptor_at (page_of block)) where
+      -- the words without an owner, and then without the block
+      abbrev disowned : List ℕ
+      disowned = set words owner 0
+
+      abbrev unmarked_words : List ℕ
+      unmarked_words = set (set words owner 0) (mark_at block) clear
+
+      owner_kept : (place : ℕ) → place ≢ owner → get_or disowned place 0 ≡ get_or words place 0
+      owner_kept place apart = get_or-set_other words owner place 0 0 apart
+
+      both_kept : (place : ℕ) → place ≢ owner → place ≢ mark_at block → get_or unmarked_words place 0 ≡ get_or words place 0
+      both_kept place apart other = get_or-set_other disowned (mark_at block) place clear 0 other ∙ owner_kept place apart
+
+      mark_in : mark_at block < length disowned
+      mark_in = subst (λ (n : ℕ). mark_at block < n) (sym (length-set words owner 0)) mark.within
+
+      released_is : released block disowned ≡ unmarked_words
+      released_is = ap (set disowned (mark_at block))
+          (ap (λ (d : ℕ). unmarked block d (get_or disowned (mark_at block) 0)) (owner_kept _ (λ e. no_descriptor (sym e)))
+          ∙ ap (unmarked block (get_or words (descriptor_at (page_of block)) 0)) (owner_kept _ (λ e. no_mark (sym e))))
+
+      still_released : released block unmarked_words ≡ unmarked_words
+      still_released = released-again words unmarked_words block (⊎_elim (λ big. inl big) (λ two. inr (both_kept _ (λ e. no_descriptor (sym e)) two)) mark.two_words)
+          (get_or-set_same disowned (mark_at block) clear 0 mark_in)
+
+      -- a word without an owner stays so
+      still_none : (image : List ℕ) → get_or image owner 0 ≡ 0 → set image owner 0 ≡ image
+      still_none image none = ap (set image owner) (sym none) ∙ set-get_or image owner 0
+
+      owner_none : get_or disowned owner 0 ≡ 0
+      owner_none = get_or-set_same words owner 0 0 owner_in
+
+      pub freeing_mends : get_or words (lane_op_at lane) 0 ≡ 2 → Mends words lane (change owner 0 ∷ release words block ∷ idle lane ∷ [])
+      freeing_mends two = record {
+        within = (owner_in, (mark.within, (op_in, tt)));
+        mends = ends;
+        cuts = (
+          cut-one_store Has owner 0 words refl first,
+          (
+            cut-one_store Has (mark_at block) clear disowned first second,
+            (cut-one_store Has (lane_op_at lane) 0 unmarked_words second last, last),
+          ),
+        );
+      }
+        where
+          ends : set unmarked_words (lane_op_at lane) 0 ≡ mended_lane lane words
+          ends = sym (mended-is lane words 2 dest pointer two refl refl ∙ ap (λ (ws : List ℕ). set ws (lane_op_at lane) 0) released_is)
+
+          last : Has (set unmarked_words (lane_op_at lane) 0)
+          last = at_end unmarked_words (length-set disowned (mark_at block) clear ∙ length-set words owner 0) ends
+
+          first : Has disowned
+          first =
+              mended-is lane disowned 2 dest pointer (owner_kept _ (λ e. owner_outside.0 (sym e)) ∙ two) (owner_kept _ (λ e. owner_outside.1 (sym e))) (owner_kept _ (λ e. owner_outside.2 (sym e)))
+              ∙ ap (λ (ws : List ℕ). set (released block ws) (lane_op_at lane) 0) (still_none disowned owner_none)
+              ∙ ap (λ (ws : List ℕ). set ws (lane_op_at lane) 0) released_is ∙ ends
+
+          second : Has unmarked_words
+          second =
+              mended-is lane unmarked_words 2 dest pointer
+              (both_kept _ (λ e. owner_outside.0 (sym e)) (λ e. mark.outside.0 (sym e)) ∙ two)
+              (both_kept _ (λ e. owner_outside.1 (sym e)) (λ e. mark.outside.1 (sym e)))
+              (both_kept _ (λ e. owner_outside.2 (sym e)) (λ e. mark.outside.2 (sym e)))
+              ∙ ap (λ (ws : List ℕ). set (released block ws) (lane_op_at lane) 0) (still_none unmarked_words (get_or-set_other disowned (mark_at block) owner clear 0 no_mark ∙ owner_none))
+              ∙ ap (λ (ws : List ℕ). set ws (lane_op_at lane) 0) still_released ∙ ends
+
+-- ── an owner's word ──
+
+pub owner_outside : (words : List ℕ) (lane owner : ℕ) → lane < 16 → IsOwnerPlace words owner → IsOutsideLane lane owner
+owner_outside words lane owner lt is = (
+  λ e. ⊎_elim (λ low. omega (arith, e, low)) (λ high. omega (arith, e, high, lt)) is.outside_lanes,
+  λ e. ⊎_elim (λ low. omega (arith, e, low)) (λ high. omega (arith, e, high, lt)) is.outside_lanes,
+  λ e. ⊎_elim (λ low. omega (arith, e, low)) (λ high. omega (arith, e, high, lt)) is.outside_lanes,
+)
+
+pub owner_no_mark : (words : List ℕ) (owner block : ℕ) → IsOwnerPlace words owner → (block % 512 ≢ 0 → is_slot words block ≡ true) → owner ≢ mark_at block
+owner_no_mark words owner block is slot e = ⊎_elim big small (cases_Bool (is_big_place block))
+  where
+    big : is_big_place block ≡ true → ⊥
+    big b = let mark_is : mark_at block ≡ descriptor_at (page_of block) = cond-true (is_big_place block) _ _ b in omega (arith, e, mark_is, is.no_descriptor)
+
+    small : is_big_place block ≡ false → ⊥
+    small b =
+        let mark_is : mark_at block ≡ page_at (page_of block) = cond-false (is_big_place block) _ _ b in
+        let in_page = and_parts (is_small_page words (page_of block)) _ (and_parts (is_small_page words (page_of block) && ltb (slot_in (class_of words (page_of block)) block) (slots_of (class_of words (page_of block)))) _ (slot (eqb-false (block % 512) 0 b))).0 in
+        is.no_bitmap (ap (is_small_page words) (omega (arith, e, mark_is)) ∙ in_page.0) (omega (arith, e, mark_is))
+
+-- ── each lane ──
+
+pub work_mends : (words : List ℕ) (lane : ℕ) → MayMend words lane → AtWork words lane → Mends words lane (lane_changes words lane)
+work_mends words lane may work = ⊎_elim allocating freeing work.op
+  where
+    inside : place_in (get_or words (lane_block_at lane) 0) < length words
+    inside = (pointer_parts words _ (block_pointer words _ work.block)).1
+
+    mark : HasMark (length words) lane (place_in (get_or words (lane_block_at lane) 0))
+    mark = has_mark (length words) lane _ may.lane_is inside (block_page words _ work.block)
+
+    allocating : get_or words (lane_op_at lane) 0 ≡ 1 → Mends words lane (lane_changes words lane)
+    allocating one = ⊎_elim
+        (λ owned. subst (Mends words lane) (sym (changes-done words lane one owned)) (done_mends words lane may.lane_is may.lanes one owned))
+        (λ apart. subst (Mends words lane) (sym (changes-undone words lane one apart)) (undone_mends words lane may.lane_is may.lanes mark one apart))
+        (cases_eq (get_or words (place_in (get_or words (lane_dest_at lane) 0)) 0) (get_or words (lane_block_at lane) 0))
+
+    freeing : get_or words (lane_op_at lane) 0 ≡ 2 → Mends words lane (lane_changes words lane)
+    freeing two =
+        let owner_is = may.owner_is two in
+        subst (Mends words lane) (sym (changes-freeing words lane two)) (freeing_mends words lane may.lane_is may.lanes mark owner_is.in_image
+        (owner_outside words lane _ may.lane_is owner_is) (owner_no_mark words _ _ owner_is (block_slot words _ work.block)) (λ e. omega (arith, e, owner_is.no_descriptor)) two)
+
+module _ (words : List ℕ) (lane : ℕ) (may : MayMend words lane) where
+  -- an idle lane has no parts, and another has those of its changes
+  by_op : (P : Type 0) → (get_or words (lane_op_at lane) 0 ≡ 0 → lane_parts words lane ≡ [] → P) → (Mends words lane (lane_changes words lane) → AtWork words lane → P) → P
+  by_op P idle_is busy = ⊎_elim
+      (λ zero_op. idle_is zero_op (none-idle words lane zero_op))
+      (λ some. let work = at_work words may.rules lane may.lane_is some in busy (work_mends words lane may work) work)
+      (cases_eq (get_or words (lane_op_at lane) 0) 0)
+
+  pub lane_plan : IsPlan (length words) (lane_parts words lane)
+  lane_plan = by_op _
+      (λ zero_op none. subst (IsPlan (length words)) (sym none) tt)
+      (λ mends work. subst (IsPlan (length words)) (sym (parts-are words lane)) (needed-plan (length words) (lane_changes words lane) words mends.within))
+
+  pub lane_mends : finished (lane_parts words lane) words ≡ mended_lane lane words
+  lane_mends = by_op _
+      (λ zero_op none. ap (λ (parts : List Part). finished parts words) none ∙ sym (mended-idle lane words zero_op))
+      (λ mends work. ap (λ (parts : List Part). finished parts words) (parts-are words lane) ∙ needed-finished (lane_changes words lane) words ∙ mends.mends)
+
+  pub lane_cuts : EachCut (λ image. mended_lane lane image ≡ mended_lane lane words) (lane_parts words lane) words
+  lane_cuts = by_op _
+      (λ zero_op none. subst (λ (parts : List Part). EachCut (λ image. mended_lane lane image ≡ mended_lane lane words) parts words) (sym none) refl)
+      (λ mends work. subst (λ (parts : List Part). EachCut (λ image. mended_lane lane image ≡ mended_lane lane words) parts words) (sym (parts-are words lane))
+      (needed-cuts (λ image. mended_lane lane image ≡ mended_lane lane words) (lane_changes words lane) words mends.cuts))
+
+  pub lane_idle : get_or (mended_lane lane words) (lane_op_at lane) 0 ≡ 0
+  lane_idle = by_op _
+      (λ zero_op none. ap (λ (ws : List ℕ). get_or ws (lane_op_at lane) 0) (mended-idle lane words zero_op) ∙ zero_op)
+      (λ mends work. ap (λ (ws : List ℕ). get_or ws (lane_op_at lane) 0) (sym mends.mends) ∙ ended-idle words lane work (omega (arith, may.lane_is, may.lanes)))
+
+pub lane_survives : (lane : ℕ) (play : Play) (n : ℕ) (left : List Action) (d : Device) (image base : List ℕ) → IsPlaying play n left d → IsCrashImageWithin play.own d image
+    → IsTakenBack play image base → play.parts ≡ lane_parts base lane → MayMend base lane → mended_lane lane image ≡ mended_lane lane base
+lane_survives lane play n left d image base playing image_is back parts may =
+    plan_survives_parts (λ words. mended_lane lane words ≡ mended_lane lane base) (lane_parts base lane) play n left d image base playing image_is back parts (lane_cuts base lane may)

@@ -1,0 +1,12 @@
+-- Changes of words, each of which is a part of its own.
+use Rattle.std.specs.Prelude.{ℕ, List, map}
+use Rattle.pm_model.specs.Plans.{Part, one_store}
+use Rattle.pmem_recover.specs.declared.change.Change.{Change}
+
+-- the word at a place gets this value
+abbrev pub change : ℕ → ℕ → Change
+change place value = record { place = record { 0 = place }; value = value }
+
+-- a part for each of them
+abbrev pub change_parts : List Change → List Part
+change_parts changes = map (λ c. one_store c.place.0 c.value) changes

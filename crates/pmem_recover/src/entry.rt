@@ -1,0 +1,69 @@
+// The rules of every image that a power cut can leave, tried before it is opened.
+ghost use Rattle.std.specs.Prelude.{◌≡◌, ◌⊎◌, ℕ, ◌%◌, ◌≤◌, None, Some, IfOk, IfErr, length};
+ghost use Rattle.pm_model.specs.Checks.{first_failing, first_fault};
+ghost use Rattle.pmem_recover.specs.declared.error.EntryError.TheVariants.{BadImage, NoMemory as OutOfMemory};
+ghost use Rattle.pmem_recover.specs.EntryRules.{entry_rules, magic_rule, version_rule, last_rule};
+
+use crate::error::EntryError;
+use crate::heap_rules::{bitmap_fault, descriptor_fault, reserved_fault};
+use crate::lane_rules::lane_fault;
+use pm_model::{MAGIC, VERSION, last_commit, magic, version};
+use std::alloc::Global;
+
+// Commit numbers are below 2^40.
+const MAX_COMMITS: u64 = (1 << 40) - 1;
+
+/// Tries the rules of every image that a power cut can leave, in the order of their numbers: 1 to 3 on the first words,
+/// 5 to 7 on the heap and 8 on the lanes. An error names the first rule that the words break, and the place where they
+/// do.
+pub fn check_entry(_alloc: Global, words: &[u64]) -> Result<(), EntryError>
+    requires segments { length words.now % 32768 ≡ 0 }
+    requires one_or_more { 32768 ≤ length words.now }
+    requires most { length words.now ≤ 4194304 }
+    ensures sound { IfOk result (λ _. first_fault entry_rules words.now ≡ None) }
+    ensures fault { IfErr result (λ error. (error ≡ OutOfMemory)
+        ⊎ ((rule place : ℕ) × (first_fault entry_rules words.now ≡ Some (record { rule = rule; place = place })) × (error ≡ BadImage rule place))) }
+{
+    refuse(1, magic_fault(words))?;
+    refuse(2, version_fault(words))?;
+    refuse(3, last_fault(words))?;
+    refuse(5, reserved_fault(words))?;
+    refuse(6, descriptor_fault(words))?;
+    refuse(7, bitmap_fault(words))?;
+    refuse(8, lane_fault(words))
+}
+
+// Refuses an image that breaks a rule at this place.
+fn refuse(rule: u8, fault: Option<u32>) -> Result<(), EntryError>
+    ensures kept { IfOk result (λ _. fault ≡ None) }
+    ensures broken { IfErr result (λ error. (place : ℕ) × (fault ≡ Some place) × (error ≡ BadImage rule place)) }
+{
+    match fault {
+        Some(place) => Err(EntryError::BadImage { rule, place }),
+        None => Ok(()),
+    }
+}
+
+fn magic_fault(words: &[u64]) -> Option<u32>
+    requires { 32768 ≤ length words.now }
+    ensures { result ≡ first_failing (magic_rule words.now) }
+{
+    let place = magic().0;
+    (words[place as usize] != MAGIC).then_some(place)
+}
+
+fn version_fault(words: &[u64]) -> Option<u32>
+    requires { 32768 ≤ length words.now }
+    ensures { result ≡ first_failing (version_rule words.now) }
+{
+    let place = version().0;
+    (words[place as usize] != VERSION).then_some(place)
+}
+
+fn last_fault(words: &[u64]) -> Option<u32>
+    requires { 32768 ≤ length words.now }
+    ensures { result ≡ first_failing (last_rule words.now) }
+{
+    let place = last_commit().0;
+    (words[place as usize] > MAX_COMMITS).then_some(place)
+}

@@ -1,0 +1,24 @@
+//! Opening an image that a power cut left: which images are refused, and the plans that mend the others.
+//!
+//! - `check_entry` tries the rules that every image keeps that a power cut can leave.
+//! - `next_lane` plans the mending of the lanes, one after the other. What a power cut leaves of such a plan is mended to
+//!   the same words (`lane_opening_law`).
+#![tactic(auto)]
+
+mod change;
+mod entry;
+mod error;
+mod heap_rules;
+mod lane_rules;
+mod lanes;
+mod laws;
+mod layout;
+
+pub use entry::check_entry;
+pub use error::EntryError;
+pub use lanes::next_lane;
+pub use laws::{fault_law, lane_opening_law};
+pub use pm_model::NoMemory;
+
+#[cfg(test)]
+mod tests;

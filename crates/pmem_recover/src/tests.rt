@@ -1,0 +1,177 @@
+ghost use Rattle.std.specs.Prelude.{◌≤◌};
+
+use crate::*;
+use pm_model::{Action, Keep, Memory, Place, Plain, Plan, fresh};
+use std::alloc::Global;
+use std::process::Abort;
+use std::test::Fail;
+
+// Checks a formatted image of one segment in which two words were changed.
+fn check_changed(
+    rt: &impl Abort,
+    alloc: Global,
+    first: (usize, u64),
+    second: (usize, u64),
+) -> Result<Result<(), EntryError>, NoMemory> {
+    let mut words = fresh(alloc, 1)?;
+    assert!(rt; first.0 < 32768);
+    assert!(rt; second.0 < 32768);
+    words[first.0] = first.1;
+    words[second.0] = second.1;
+    Ok(check_entry(alloc, &words))
+}
+
+fn broken(rule: u8, place: u32) -> Result<(), EntryError> {
+    Err(EntryError::BadImage { rule, place })
+}
+
+#[test]
+fn the_first_broken_rule_is_told(rt: HostRuntime) -> Result<(), Fail> {
+    let same = (1000, 0);
+    for (first, second, told) in [
+        (same, same, Ok(())),
+        ((512, 0), same, broken(1, 512)),
+        ((513, 2), same, broken(2, 513)),
+        ((514, 1 << 40), same, broken(3, 514)),
+        ((514, (1 << 40) - 1), same, Ok(())),
+        ((0, 0), same, broken(5, 0)),
+        ((5, 8), same, broken(6, 5)),
+        ((5, 16 + 62), same, broken(6, 5)),
+        ((5, 16 + 59), same, Ok(())),
+        ((5, 2), (2560, 1 << 63), broken(7, 2560)),
+        ((5, 2), (2560, (1 << 63) - 1), Ok(())),
+        ((576, 3), same, broken(8, 576)),
+        ((696, 1), same, broken(8, 696)),
+        ((5, 8), (0, 0), broken(5, 0)),
+    ] {
+        assert_eq!(rt; check_changed(&rt, rt.alloc(), first, second)?, told);
+    }
+    Ok(())
+}
+
+fn store(place: u32, value: u64) -> Action {
+    Action::Store {
+        place: Place(place),
+        value,
+    }
+}
+
+const BLOCK: u64 = 4_294_969_352;
+
+// The allocation of 80 words on a formatted image through lane 0, whose pointer goes into place 520: page 4 becomes a
+// small page of class 4, and its first slot, at place 2056, is the block. Then the op of its freeing, for which the lane
+// has the two pointers already.
+fn allocation_and_freeing() -> [Action; 25] {
+    [
+        store(2048, 0),
+        Action::Flush { line: 256 },
+        Action::Fence,
+        store(4, 6),
+        Action::Flush { line: 0 },
+        Action::Fence,
+        store(577, 4_294_967_816),
+        store(578, BLOCK),
+        Action::Flush { line: 72 },
+        Action::Fence,
+        store(576, 1),
+        Action::Flush { line: 72 },
+        Action::Fence,
+        store(2048, 1),
+        Action::Flush { line: 256 },
+        Action::Fence,
+        store(520, BLOCK),
+        Action::Flush { line: 65 },
+        Action::Fence,
+        store(576, 0),
+        Action::Flush { line: 72 },
+        Action::Fence,
+        store(576, 2),
+        Action::Flush { line: 72 },
+        Action::Fence,
+    ]
+}
+
+// Plays an action that may be played.
+fn act<M: Memory>(rt: &impl Abort, memory: &mut M, session: u8, action: Action)
+    requires { session ≤ 16 }
+{
+    match action {
+        Action::Store { place, value } => {
+            assert!(rt; place.0 < memory.len());
+            assert!(rt; memory.is_clean(place));
+            memory.act(session, Action::Store { place, value });
+        }
+        Action::Flush { line } => {
+            assert!(rt; line < memory.len() / 8);
+            memory.act(session, Action::Flush { line });
+        }
+        Action::Fence => memory.act(session, Action::Fence),
+        Action::Punch { .. } => assert!(rt; false),
+    }
+}
+
+// The next lane of an image whose rules are tried first.
+fn next_checked<M: Memory>(
+    rt: &impl Abort,
+    alloc: Global,
+    memory: &M,
+    from: u32,
+) -> Result<Option<(u32, Plan)>, NoMemory> {
+    let words = memory.choose(Keep::All)?;
+    match check_entry(alloc, &words) {
+        Ok(()) => next_lane(alloc, memory, from),
+        Err(_) => panic!(rt; "the image breaks a rule"),
+    }
+}
+
+// Mends all lanes.
+fn mend_lanes<M: Memory>(rt: &impl Abort, alloc: Global, memory: &mut M) -> Result<(), NoMemory> {
+    let mut from = 0;
+    for _ in 0..16 {
+        let Some((lane, mut plan)) = next_checked(rt, alloc, memory, from)? else {
+            return Ok(());
+        };
+        for _ in 0..plan.len() {
+            let Some(action) = plan.next() else { break };
+            act(rt, memory, 0, action);
+        }
+        assert!(rt; lane < 16);
+        from = lane + 1;
+    }
+    Ok(())
+}
+
+// The bitmap of page 4 and the word at place 520, where these actions were cut after so many and the lanes were mended.
+fn mended_cut(
+    rt: &impl Abort,
+    alloc: Global,
+    played: usize,
+    keep: Keep,
+) -> Result<(u64, u64), NoMemory> {
+    let mut memory = Plain::new(alloc, fresh(alloc, 1)?)?;
+    for action in allocation_and_freeing().iter().take(played) {
+        act(rt, &mut memory, 1, *action);
+    }
+    let image = memory.choose(keep)?;
+    assert_eq!(rt; image.len(), 32768);
+    let mut opened = Plain::new(alloc, image)?;
+    mend_lanes(rt, alloc, &mut opened)?;
+    Ok((opened.load(Place(2048)), opened.load(Place(520))))
+}
+
+// The owner's word is stored by the 17th action and safe from the 19th on, and the op of the freeing by the 23rd and the
+// 25th.
+#[test]
+fn a_cut_allocation_or_freeing_is_done_or_undone(rt: HostRuntime) -> Result<(), Fail> {
+    for played in 0..=25 {
+        for (keep, done, freed) in [(Keep::Nothing, 19, 25), (Keep::All, 17, 23)] {
+            let words = if done <= played && played < freed {
+                (1, BLOCK)
+            } else {
+                (0, 0)
+            };
+            assert_eq!(rt; mended_cut(&rt, rt.alloc(), played, keep)?, words);
+        }
+    }
+    Ok(())
+}
