@@ -1,0 +1,86 @@
+-- What the rule of an array says of its chunks.
+use Rattle.std.proofs.Common.{◌≡◌, ⊎_elim, ℕ, ◌+◌, ◌%◌, ◌<◌, ◌≤◌, true, false, eqb, leb, ltb, List, ◌∷◌, length, map, get_or, refl, sym, ◌∙◌, arith}
+use Rattle.std.proofs.lemmas.Bool.{cond-true, cond-false, lt-ltb, leb-true, ltb-true, eqb-true, eq-eqb, and_parts, or_cases}
+use Rattle.std.proofs.lemmas.List.Elements.{All-contains}
+use Rattle.pm_model.specs.Pointer.{pointer_word}
+use Rattle.pm_model.specs.Places.{below, place_in, is_pointer, is_in_segment, is_pointer_to, is_null_or_pointer_to}
+use Rattle.pm_model.specs.Checks.{Check, check, Keeps}
+use Rattle.pm_model.proofs.Heap.{Holds}
+use Rattle.pm_model.proofs.Members.{below-Contains, Contains-here, Contains-there, map-Contains}
+use Rattle.seg_array.specs.Arrays.{chunk_words, capacity_of, chunk_of, offset_of, chunk_count, chunk_pointer_at, is_chunk_pointer, array_rule, capacity}
+use Rattle.seg_array.proofs.Sizes.{capacity_next, chunk_below}
+
+-- a chunk's words lie in the image, and in one segment
+pub record NamesChunk (words : List ℕ) (count pointer : ℕ) : Type 0 where
+  pub is_one : is_pointer words pointer ≡ true
+  pub word_is : pointer ≡ pointer_word (place_in pointer)
+  pub begins : place_in pointer < length words
+  pub in_segment : place_in pointer % 32768 + count ≤ 32768
+
+pub names_chunk : (words : List ℕ) (count pointer : ℕ) → is_pointer_to words count pointer ≡ true → NamesChunk words count pointer
+names_chunk words count pointer is =
+    let both = and_parts (is_pointer words pointer) (is_in_segment (place_in pointer) count) is in
+    let parts = and_parts (eqb pointer (pointer_word (place_in pointer))) (ltb (place_in pointer) (length words)) both.0 in
+    record {
+      is_one = both.0;
+      word_is = eqb-true pointer (pointer_word (place_in pointer)) parts.0;
+      begins = ltb-true (place_in pointer) (length words) parts.1;
+      in_segment = leb-true (place_in pointer % 32768 + count) 32768 both.1;
+    }
+
+module _ (words : List ℕ) (header : ℕ) (keeps : Keeps words (array_rule header)) where
+  pointer_check : ℕ → Check
+  pointer_check chunk = check (chunk_pointer_at header chunk) (is_chunk_pointer words (chunk_count words header) chunk (get_or words (chunk_pointer_at header chunk) 0))
+
+  checks : List Check
+  checks = check header (leb (chunk_count words header) 12) ∷ map pointer_check (below 12)
+
+  pub at_most_12 : chunk_count words header ≤ 12
+  unfolding array_rule checks pointer_check
+  at_most_12 = leb-true (chunk_count words header) 12
+      (All-contains Holds checks (check header (leb (chunk_count words header) 12)) keeps.checks (Contains-here (check header (leb (chunk_count words header) 12)) (map pointer_check (below 12))))
+
+  pub pointer_rule : (chunk : ℕ) → chunk < 12 → is_chunk_pointer words (chunk_count words header) chunk (get_or words (chunk_pointer_at header chunk) 0) ≡ true
+  unfolding array_rule checks pointer_check
+  pointer_rule chunk lt = All-contains Holds checks (pointer_check chunk) keeps.checks
+      (Contains-there (check header (leb (chunk_count words header) 12)) (pointer_check chunk) (map pointer_check (below 12)) (map-Contains pointer_check (below 12) chunk (below-Contains 12 chunk lt)))
+
+  -- a published chunk
+  pub published : (chunk : ℕ) → chunk < chunk_count words header → NamesChunk words (chunk_words chunk) (get_or words (chunk_pointer_at header chunk) 0)
+  published chunk lt =
+      let most = at_most_12 in
+      names_chunk words (chunk_words chunk) (get_or words (chunk_pointer_at header chunk) 0)
+      (sym (cond-true (ltb chunk (chunk_count words header)) _ _ (lt-ltb chunk (chunk_count words header) lt)) ∙ pointer_rule chunk (omega (arith, lt, most)))
+
+  -- the chunk behind them, where the array owns one
+  pub owned : chunk_count words header < 12 → (get_or words (chunk_pointer_at header (chunk_count words header)) 0 ≡ 0 → ⊥)
+      → NamesChunk words (chunk_words (chunk_count words header)) (get_or words (chunk_pointer_at header (chunk_count words header)) 0)
+  owned lt some =
+      let count = chunk_count words header in
+      let pointer = get_or words (chunk_pointer_at header count) 0 in
+      let here : is_null_or_pointer_to words (chunk_words count) pointer ≡ true =
+      sym (cond-true (eqb count count) _ _ (eq-eqb count count refl)) ∙ sym (cond-false (ltb count count) _ _ (le_ltb count)) ∙ pointer_rule count lt in
+      ⊎_elim (λ null. absurd (some (eqb-true pointer 0 null))) (λ is. names_chunk words (chunk_words count) pointer is)
+      (or_cases (eqb pointer 0) (is_pointer_to words (chunk_words count) pointer) here)
+    where
+      le_ltb : (n : ℕ) → ltb n n ≡ false
+      le_ltb n = grind arith
+
+  -- the chunk in which a published index lies
+  module _ (index : ℕ) (lt : index < capacity words header) where
+    pub index_chunk : (chunk_of index < chunk_count words header) × (capacity_of (chunk_of index) ≤ index) × (index < capacity_of (chunk_of index + 1))
+    index_chunk = chunk_below index (chunk_count words header) at_most_12 lt
+
+    pub index_named : NamesChunk words (chunk_words (chunk_of index)) (get_or words (chunk_pointer_at header (chunk_of index)) 0)
+    index_named = published (chunk_of index) index_chunk.0
+
+    -- and the place of its word
+    pub place_within : length words % 32768 ≡ 0 → place_in (get_or words (chunk_pointer_at header (chunk_of index)) 0) + offset_of index < length words
+    place_within whole =
+        let named = index_named in
+        let reach = capacity_next (chunk_of index) in
+        within (place_in (get_or words (chunk_pointer_at header (chunk_of index)) 0)) (length words) (chunk_words (chunk_of index)) (offset_of index)
+        named.begins named.in_segment (omega (arith, index_chunk.1, index_chunk.2, reach)) whole
+      where
+        within : (place size count offset : ℕ) → place < size → place % 32768 + count ≤ 32768 → offset < count → size % 32768 ≡ 0 → place + offset < size
+        within place size count offset a b c d = omega arith

@@ -1,0 +1,9 @@
+pub mod Growing
+pub mod Headers
+pub mod Lengths
+pub mod Planning
+pub mod Punches
+pub mod Sizes
+pub mod SmallPages
+pub mod TestImage
+pub mod Whole

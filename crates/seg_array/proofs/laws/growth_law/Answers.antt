@@ -1,0 +1,14 @@
+use Rattle.heap_palloc.proofs.Survival.{ended_clean}
+use Rattle.seg_array.proofs.Whole.{growth_plan, growth_allocates, growth_owned, growth_survives, growth_stays, growth_ended}
+use Rattle.seg_array.proofs.laws.growth_law.Goals as goal
+
+pub returns : goal.returns
+returns c = record {
+  plan = growth_plan;
+  allocates = growth_allocates;
+  owned = growth_owned;
+  survives = λ g play n left d image base playing left_by back is may. growth_survives base g may play n d image left playing left_by back is;
+  stays = λ g play n d image base playing left_by back is may. growth_stays base g may play n d image playing left_by back is;
+  settles = λ base g may. (growth_ended base g may).0;
+  clean = λ play n w d playing hit. ended_clean play n d playing w hit;
+}

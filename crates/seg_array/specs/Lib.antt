@@ -1,0 +1,5 @@
+pub mod Arrays
+pub mod Calls
+pub mod Growth
+pub mod Shown
+pub mod TestImage

@@ -1,0 +1,31 @@
+// What the growth of an array keeps through each power cut, whatever is played beside it.
+ghost use Rattle.std.specs.Prelude.{◌≡◌, ◌≢◌, ◌⊎◌, ℕ, [], List, IsTrue, length, slice_index};
+ghost use Rattle.pm_model.specs.declared.action.Action.{Action};
+ghost use Rattle.pm_model.specs.Device.{Device, IsClean};
+ghost use Rattle.pm_model.specs.Plans.{Play, IsPlaying, IsPlan, IsCrashImageWithin, IsTakenBack, finished, footprint, plan_of};
+ghost use Rattle.pm_model.specs.Blocks.{live_blocks};
+ghost use Rattle.heap_palloc.specs.Lane.{mended_lane};
+ghost use Rattle.heap_palloc.specs.Shown.{GainsOne};
+ghost use Rattle.seg_array.specs.Growth.{Growth, next_pointer_at, next_chunk, chunk_block, growth_parts, MayGrow};
+ghost use Rattle.seg_array.specs.Shown.{IsUngrown, IsGrown};
+
+/// A growth: the lane mended, each image has the capacity before, or the capacity after and new words of 0. After the last
+/// action it is the capacity after.
+pub fn growth_law()
+    ensures plan { (base : List ℕ) (g : Growth) → MayGrow base g → IsPlan (length base) (growth_parts base g) }
+
+    // It allocates the chunk, unless the array owned it.
+    ensures allocates { (base : List ℕ) (g : Growth) → MayGrow base g → slice_index base (next_pointer_at base g.header) ≡ 0 →
+        GainsOne (live_blocks base) (chunk_block (next_chunk base g)) (live_blocks (finished (growth_parts base g) base)) }
+    ensures owned { (base : List ℕ) (g : Growth) → MayGrow base g → slice_index base (next_pointer_at base g.header) ≢ 0 →
+        live_blocks (finished (growth_parts base g) base) ≡ live_blocks base }
+
+    ensures survives { (g : Growth) (play : Play) (n : ℕ) (left : List Action) (d : Device) (image base : List ℕ) →
+        IsPlaying play n left d → IsCrashImageWithin play.own d image → IsTakenBack play image base → play.parts ≡ growth_parts base g → MayGrow base g →
+        (IsUngrown base g (mended_lane g.lane image)) ⊎ (IsGrown base g (mended_lane g.lane image)) }
+    ensures stays { (g : Growth) (play : Play) (n : ℕ) (d : Device) (image base : List ℕ) →
+        IsPlaying play n [] d → IsCrashImageWithin play.own d image → IsTakenBack play image base → play.parts ≡ growth_parts base g → MayGrow base g →
+        IsGrown base g (mended_lane g.lane image) }
+    ensures settles { (base : List ℕ) (g : Growth) → MayGrow base g → IsGrown base g (finished (growth_parts base g) base) }
+    ensures clean { (play : Play) (n w : ℕ) (d : Device) → IsPlaying play n [] d → IsTrue (footprint (plan_of play.parts) w) → IsClean d w }
+{}
