@@ -84,7 +84,9 @@ fn main(rt: HostRuntime) -> io::Result<()> {
     let segments = read_number(&rt, 1)?.clamp(1, 128);
     let inserts = read_number(&rt, 2)?;
     let memory = Plain::new(alloc, stage_fresh(alloc, segments)?)?;
-    let mut core = Core::from_memory(alloc, memory)?;
+    let Ok(mut core) = Core::from_memory(alloc, memory) else {
+        return Ok(());
+    };
     run_inserts(alloc, &mut core, inserts)?;
     let rows = count_rows(core.history());
     println!(rt;

@@ -1,6 +1,11 @@
 -- Decisions as the functions that make them give them.
-use Rattle.std.proofs.Common.{◌≡◌, ℕ, ◌+◌, ◌<◌, ◌≤◌, false, List, [], get_or, None, Some, refl, sym, subst, arith}
-use Rattle.std.specs.Prelude.{Result, Ok, Err, IfOk, IsTrue}
+use Rattle.std.proofs.Common.{◌≡◌, ℕ, ℤ, ◌+◌, ◌<◌, ◌≤◌, ◌∙◌, false, List, [], ◌∷◌, get_or, slice_get, None, Some, refl, ap, sym, subst, arith}
+use Rattle.std.specs.Prelude.{Result, Ok, Err, IfOk, IsTrue, nat_eq}
+use Rattle.std.specs.Cmp.Lexicographic.{pointwise}
+use Rattle.std.proofs.lemmas.Slice.Eq.{slice_eq-Decides}
+use Rattle.std.proofs.lemmas.Bool.Decides.{Decides-eqb}
+use Rattle.mv_model.specs.declared.value.Value.{Value}
+use Rattle.mv_model.specs.declared.value.Value.TheVariants.{Int, Text}
 use Rattle.std.proofs.lemmas.Bool.{false≢true, and_right, or_from, le-ltb}
 use Rattle.mv_model.specs.declared.call.Call.{Call}
 use Rattle.mv_model.specs.declared.call.Call.TheVariants as call
@@ -12,7 +17,7 @@ use Rattle.mv_model.proofs.Unchanged.{refusals_change_nothing_lem}
 use Rattle.pm_model.specs.Fixed.{last_at}
 use Rattle.engine_core.specs.Stage.{high_at}
 use Rattle.engine_core.specs.StageRules.{IsStage}
-use Rattle.engine_core.specs.Served.{is_served}
+use Rattle.engine_core.specs.Served.{insert_of, is_served, table_name}
 use Rattle.engine_core.specs.Decided.{IsDecided, IsDecision, IsClosed, IsPlacedLate, left_of}
 use Rattle.engine_core.specs.LogicalState.{commits_in, is_seen, rows_from, state_of, within}
 use Rattle.engine_core.specs.declared.decision.Decision.{Decision}
@@ -22,6 +27,7 @@ use Rattle.engine_core.proofs.Rows.{length-commits_in, length-rows_from}
 use Rattle.engine_core.proofs.States.{commit-spent}
 use Rattle.engine_core.proofs.Decisions.{refused}
 use Rattle.engine_core.proofs.Commits.{close-decided}
+use Rattle.engine_core.proofs.Survivals.{close-survives, stands-survives}
 
 -- a reply that leaves all as it is
 abbrev pub standing : Reply → Transactions → Decision
@@ -30,14 +36,14 @@ standing given now = record { reply = given; copy = given; plan = None; after = 
 pub stands : {E : Type 0} (words : List ℕ) (now : Transactions) (said : Call) (given : Reply) (made : Result Decision E) → IfOk made (λ decision. decision ≡ standing given now)
     → IsDecided words now said given [] now → IsPlacedLate words None said given [] → IfOk made (λ decision. IsDecision words now said decision)
 stands words now said given (Ok decision) is decided late =
-    subst (λ (d : Decision). IsDecision words now said d) (sym is) (record { copied = refl; decided = decided; late = late })
+    subst (λ (d : Decision). IsDecision words now said d) (sym is) (record { copied = refl; decided = decided; late = late; survives = stands-survives words now decided.stage })
 stands words now said given (Err error) is decided late = tt
 
 -- no transaction is open
 pub no_txn : (words : List ℕ) (begun : ℕ) (said : Call) → IsStage words None → IsTrue (is_served said) → (said ≡ call.Begin → ⊥) → IsDecided words (record { begun = begun; running = None }) said reply.NoTxn [] (record { begun = begun; running = None })
 no_txn words begun said stage served other =
     refused words (record { begun = begun; running = None }) said reply.NoTxn stage (allowed said served other)
-    (refusals_change_nothing_lem (state_of words (record { begun = begun; running = None })) 1 said reply.NoTxn refl) tt
+    (refusals_change_nothing_lem (state_of words (record { begun = begun; running = None })) 1 said reply.NoTxn refl) tt tt refl
   where
     allowed : (said : Call) → IsTrue (is_served said) → (said ≡ call.Begin → ⊥) → IsAllowed (state_of words (record { begun = begun; running = None })) 1 said reply.NoTxn
     allowed call.Begin served other = absurd (other refl)
@@ -57,7 +63,7 @@ no_txn words begun said stage served other =
 pub already : (words : List ℕ) (begun : ℕ) (own : Running) (said : Call) → IsStage words (Some own) → said ≡ call.Begin → IsDecided words (record { begun = begun; running = Some own }) said reply.AlreadyOpen [] (record { begun = begun; running = Some own })
 already words begun own said stage is =
     subst (λ (one : Call). IsDecided words (record { begun = begun; running = Some own }) one reply.AlreadyOpen [] (record { begun = begun; running = Some own })) (sym is)
-    (refused words (record { begun = begun; running = Some own }) call.Begin reply.AlreadyOpen stage refl refl tt)
+    (refused words (record { begun = begun; running = Some own }) call.Begin reply.AlreadyOpen stage refl refl tt tt refl)
 
 -- a row past the table's is not seen
 pub unseen-past : (words : List ℕ) (own : Running) (row : ℕ) → IsStage words (Some own) → 4096 ≤ row → is_seen words own.rows row ≡ false
@@ -75,14 +81,31 @@ spent words begun own stage some many =
     let commits = length-commits_in words (get_or words last_at 0) in
     refused words (record { begun = begun; running = Some own }) call.Commit reply.Spent stage
     (sym (commit-spent (get_or words high_at 0 + own.rows) (commits_in words (get_or words last_at 0)) begun own.number (get_or words last_at 0) (rows_from words (get_or words high_at 0) own.rows)
-    (omega (arith, count, some)) (omega (arith, commits, many)))) refl tt
+    (omega (arith, count, some)) (omega (arith, commits, many)))) refl tt tt refl
 
 -- the end of a transaction that wrote nothing
 pub closes : {E : Type 0} (words : List ℕ) (begun : ℕ) (own : Running) (made : Result Decision E) → IsStage words (Some own) → own.rows ≡ 0 → IfOk made (λ decision. IsClosed begun decision)
     → IfOk made (λ decision. IsDecision words (record { begun = begun; running = Some own }) call.Commit decision)
 closes words begun own (Err error) stage none closed = tt
-closes words begun own (Ok decision) stage none closed = record {
-  copied = closed.copied;
-  decided = rw (closed.reply, closed.after) (close-decided words begun own.number own.rows stage (left_of decision.plan) none closed.plan (omega (arith, closed.actions)));
-  late = rw (closed.reply, closed.late) tt;
-}
+closes words begun own (Ok decision) stage none closed =
+    let decided = close-decided words begun own.number own.rows stage (left_of decision.plan) none closed.plan (omega (arith, closed.actions)) in
+    record {
+      copied = closed.copied;
+      decided = rw (closed.reply, closed.after) decided;
+      late = rw (closed.reply, closed.late) tt;
+      survives = rw (closed.after, closed.late) (close-survives words begun own (left_of decision.plan) (record { begun = begun; running = None }) stage none closed.plan decided);
+    }
+
+-- an insert that is served is one of an integer into the table
+pub served-insert : (said : Call) (table : List ℕ) (values : List Value) (number : ℤ) → IsTrue (is_served said) → said ≡ call.Insert table values → slice_get values 0 ≡ Some (Int number) → said ≡ insert_of number
+served-insert said table values number served is first =
+    is ∙ go values (subst (λ (one : Call). IsTrue (is_served one)) is served) first
+  where
+    go : (values : List Value) → IsTrue (is_served (call.Insert table values)) → slice_get values 0 ≡ Some (Int number) → call.Insert table values ≡ insert_of number
+    go [] served first = absurd (false≢true served)
+    go (Text text ∷ values) served first = absurd (false≢true served)
+    go (Int other ∷ value ∷ values) served first = absurd (false≢true served)
+    go (Int other ∷ []) served first =
+        let named : table ≡ table_name = (slice_eq-Decides Decides-eqb table table_name (pointwise nat_eq table table_name) refl).0 served in
+        let same : Int other ≡ Int number = cc in
+        ap (λ (name : List ℕ). call.Insert name (Int other ∷ [])) named ∙ ap (λ (value : Value). call.Insert table_name (value ∷ [])) same

@@ -29,19 +29,19 @@ unless_empty-last [] action = refl
 unless_empty-last (first ∷ part) action = refl
 
 -- the places of stamps and of entries
-born_is : (row : ℕ) → born_at row ≡ 2048 + row
+pub born_is : (row : ℕ) → born_at row ≡ 2048 + row
 born_is row = refl
 
-entry_is : (nth : ℕ) → entry_at 0 nth ≡ 1028 + nth
+pub entry_is : (nth : ℕ) → entry_at 0 nth ≡ 1028 + nth
 entry_is nth = omega arith
 
 -- the clearing of entries, as a run of stores
-clear_run : (count : ℕ) → clear_part 0 count true ≡ run 0 (λ nth. entry_at 0 nth) 1028 entry_is (commit_word_at 0) 0 0 count
+pub clear_run : (count : ℕ) → clear_part 0 count true ≡ run 0 (λ nth. entry_at 0 nth) 1028 entry_is (commit_word_at 0) 0 0 count
 unfolding clear_part
 clear_run count = ap (λ (part : Part). part ++ one_store (commit_word_at 0) 0) (stores-at 0 (λ nth. entry_at 0 nth) (range_with_len 0 count))
 
 -- the parts of a commit, one by one
-abbrev five : ℕ → ℕ → ℕ → List Part
+abbrev pub five : ℕ → ℕ → ℕ → List Part
 five first count number =
     stamp_part first count number
     ∷ one_store (commit_word_at 0) number
@@ -50,7 +50,7 @@ five first count number =
     ∷ clear_part 0 count true
     ∷ []
 
-commit_parts-five : (first count number : ℕ) → commit_parts first count number ≡ five first count number
+pub commit_parts-five : (first count number : ℕ) → commit_parts first count number ≡ five first count number
 unfolding clear_part
 commit_parts-five first count number =
     ap (λ (parts : List Part). stamp_part first count number ∷ one_store (commit_word_at 0) number ∷ one_store last_at number ∷ one_store (state_at 0) 0 ∷ parts)
@@ -67,22 +67,22 @@ module _ (words : List ℕ) (begun number rows high last : ℕ) (stage : IsStage
   few : rows ≤ 60
   few = stage.few
 
-  abbrev stamped : List ℕ
+  abbrev pub stamped : List ℕ
   stamped = words_after (stamp_part high rows (last + 1)) words
 
-  abbrev decided : List ℕ
+  abbrev pub decided : List ℕ
   decided = words_after (one_store (commit_word_at 0) (last + 1)) stamped
 
-  abbrev counted : List ℕ
+  abbrev pub counted : List ℕ
   counted = words_after (one_store last_at (last + 1)) decided
 
-  abbrev idle : List ℕ
+  abbrev pub idle : List ℕ
   idle = words_after (one_store (state_at 0) 0) counted
 
-  abbrev cleared : List ℕ
+  abbrev pub cleared : List ℕ
   cleared = words_after (clear_part 0 rows true) idle
 
-  length-idle : length idle ≡ length words
+  pub length-idle : length idle ≡ length words
   length-idle =
       let one = length-words_after (stamp_part high rows (last + 1)) words in
       let two = length-words_after (one_store (commit_word_at 0) (last + 1)) stamped in
@@ -90,7 +90,7 @@ module _ (words : List ℕ) (begun number rows high last : ℕ) (stage : IsStage
       let four = length-words_after (one_store (state_at 0) 0) counted in
       omega (arith, one, two, three, four)
 
-  clear-beside : (w : ℕ) → (w < 1028) ⊎ (1028 + rows ≤ w) → w ≢ 1025 → get_or cleared w 0 ≡ get_or idle w 0
+  pub clear-beside : (w : ℕ) → (w < 1028) ⊎ (1028 + rows ≤ w) → w ≢ 1025 → get_or cleared w 0 ≡ get_or idle w 0
   clear-beside w out apart = ap (λ (part : Part). get_or (words_after part idle) w 0) (clear_run rows) ∙ get-run_beside 0 (λ nth. entry_at 0 nth) 1028 entry_is (commit_word_at 0) 0 0 rows idle w
       (⊎_elim (λ (low : w < 1028). inl (omega (arith, low))) (λ (above : 1028 + rows ≤ w). inr (omega (arith, above))) out) apart
 
@@ -98,18 +98,18 @@ module _ (words : List ℕ) (begun number rows high last : ℕ) (stage : IsStage
   clear-entry nth lt = ap (λ (part : Part). get_or (words_after part idle) (1028 + nth) 0) (clear_run rows) ∙ get-run 0 (λ nth. entry_at 0 nth) 1028 entry_is (commit_word_at 0) 0 0 rows idle nth (omega arith) (omega (arith, lt))
       (let l = length-idle in let s = size in let f = few in omega (arith, l, s, f)) (λ e. omega (arith, e))
 
-  clear-word : get_or cleared 1025 0 ≡ 0
+  pub clear-word : get_or cleared 1025 0 ≡ 0
   clear-word = ap (λ (part : Part). get_or (words_after part idle) 1025 0) (clear_run rows) ∙ get-run_last 0 (λ nth. entry_at 0 nth) 1028 entry_is (commit_word_at 0) 0 0 rows idle (let l = length-idle in let s = size in omega (arith, l, s))
 
   -- a word that only the stamps may change
-  late-beside : (w : ℕ) → w ≢ 514 → w ≢ 1024 → w ≢ 1025 → (w < 1028) ⊎ (1028 + rows ≤ w) → get_or cleared w 0 ≡ get_or stamped w 0
+  pub late-beside : (w : ℕ) → w ≢ 514 → w ≢ 1024 → w ≢ 1025 → (w < 1028) ⊎ (1028 + rows ≤ w) → get_or cleared w 0 ≡ get_or stamped w 0
   late-beside w a b c out =
       clear-beside w out c
       ∙ get-beside counted (state_at 0) 0 w b
       ∙ get-beside decided last_at (last + 1) w a
       ∙ get-beside stamped (commit_word_at 0) (last + 1) w c
 
-  new_last : get_or cleared last_at 0 ≡ last + 1
+  pub new_last : get_or cleared last_at 0 ≡ last + 1
   new_last =
       clear-beside last_at (inl (omega arith)) (λ e. omega (arith, e))
       ∙ get-beside counted (state_at 0) 0 last_at (λ e. omega (arith, e))
@@ -123,13 +123,13 @@ module _ (words : List ℕ) (begun number rows high last : ℕ) (stage : IsStage
       (let one = length-words_after (stamp_part high rows (last + 1)) words in let two = length-words_after (one_store (commit_word_at 0) (last + 1)) stamped in
       let three = length-words_after (one_store last_at (last + 1)) decided in let s = size in omega (arith, one, two, three, s))
 
-  new_high : get_or cleared high_at 0 ≡ high + rows
+  pub new_high : get_or cleared high_at 0 ≡ high + rows
   new_high =
       late-beside high_at (λ e. omega (arith, e)) (λ e. omega (arith, e)) (λ e. omega (arith, e)) (inl (omega arith))
       ∙ get-run_last (last + 1) born_at 2048 born_is high_at (high + rows) high rows words (let s = size in omega (arith, s))
 
   -- the stamps of the transaction's rows
-  new_born : (row : ℕ) → high ≤ row → row < high + rows → get_or cleared (born_at row) 0 ≡ last + 1
+  pub new_born : (row : ℕ) → high ≤ row → row < high + rows → get_or cleared (born_at row) 0 ≡ last + 1
   new_born row low above =
       late-beside (born_at row) (λ e. omega (arith, e)) (λ e. omega (arith, e)) (λ e. omega (arith, e)) (inr (let f = few in omega (arith, f)))
       ∙ get-run (last + 1) born_at 2048 born_is high_at (high + rows) high rows words row low above (let s = size in let r = within in omega (arith, s, r)) (λ e. omega (arith, e))
@@ -188,7 +188,7 @@ module _ (words : List ℕ) (begun number rows high last : ℕ) (stage : IsStage
       ∙ ap (λ (xs : List ℕ). record { created = rows_from cleared high rows; ended = map key_of xs }) commit_ends
       ∙ ap (λ (xs : List CreatedRow). record { created = xs; ended = [] }) (rows_from-same words cleared high rows (λ row low above. kept_value row))
 
-  commit-commits : commits_in cleared (last + 1) ≡ commits_in words last ++ record { created = rows_from words high rows; ended = [] } ∷ []
+  pub commit-commits : commits_in cleared (last + 1) ≡ commits_in words last ++ record { created = rows_from words high rows; ended = [] } ∷ []
   commit-commits =
       commits_in-more cleared last
       ∙ ap (λ (xs : List WriteSet). xs ++ commit_of cleared (last + 1) ∷ []) (commits_in-same last words cleared commit-same)
@@ -223,7 +223,7 @@ module _ (words : List ℕ) (begun number rows high last : ℕ) (stage : IsStage
         ∙ stage.others object low lt;
   }
 
-  commit-plan : IsPlan (length words) (five high rows (last + 1))
+  pub commit-plan : IsPlan (length words) (five high rows (last + 1))
   commit-plan =
       let s = size in let r = within in let f = few in (
         run-part (last + 1) born_at 2048 born_is high_at (high + rows) (length words) high rows (omega (arith, s, r)) (omega (arith, s)) (λ k low above e. omega (arith, e)),
@@ -255,6 +255,7 @@ module _ (words : List ℕ) (begun number rows high last : ℕ) (stage : IsStage
       let many = length-commits_in words last in
       let before = state_with words begun number rows high last commits created is_high is_last refl refl in
       let same : high + rows ≡ high + rows + 0 = omega arith in
+      let first_is : high ≡ get_or words high_at 0 + rows - rows = omega (arith, is_high) in
       record {
         allowed = subst (λ (s : State). IsAllowed s 1 call.Commit (reply.Committed commit)) (sym before) (sym (commit-answer (high + rows) commits begun number last created (omega (arith, count, some)) (omega (arith, many, room)) ∙ ap (λ (n : ℕ). reply.Committed n) (ap (λ (n : ℕ). n + 1) many ∙ sym is_commit)));
         parts = five high rows (last + 1);
@@ -268,6 +269,9 @@ module _ (words : List ℕ) (begun number rows high last : ℕ) (stage : IsStage
             ∙ ap (λ (new : List ℕ). state_of new (record { begun = begun; running = None })) (sym after);
         stage = rw after commit-stage;
         full = tt;
+        below = tt;
+        counted = ap length is_actions ∙ ap (λ (n : ℕ). length (plan_of (commit_parts n rows commit))) first_is
+            ∙ ap (λ (n : ℕ). length (plan_of (commit_parts (get_or words high_at 0 + rows - n) n commit))) (sym (length-rows_from words (get_or words high_at 0) rows));
         short = short;
         begun = omega arith;
       }
@@ -286,7 +290,7 @@ module _ (words : List ℕ) (begun number rows high last : ℕ) (stage : IsStage
 
 -- ── the end of a transaction that wrote nothing ──
 
-close_parts-one : close_parts ≡ one_store (state_at 0) 0 ∷ []
+pub close_parts-one : close_parts ≡ one_store (state_at 0) 0 ∷ []
 unfolding clear_part
 close_parts-one = refl
 
@@ -313,6 +317,8 @@ close-decided words begun number rows stage actions none is_actions short =
           (commits_in-same last words (words_after (one_store (state_at 0) 0) words) (switch-same words 0)))
           ∙ ap (λ (xs : List ℕ). state_of xs (record { begun = begun; running = None })) (sym after);
       full = tt;
+      below = tt;
+      counted = ap length is_actions;
       stage = rw after (switch-stage words 0 (Some (record { number = number; rows = rows })) None stage none refl refl);
       short = short;
       begun = omega arith;

@@ -1,30 +1,29 @@
 -- Each decision leaves words and transactions that stand for the next state of the sequential table.
-use Rattle.std.proofs.Common.{◌≡◌, ◌≢◌, ◌⊎◌, inl, inr, ⊎_elim, ℕ, ℤ, zero, suc, ◌+◌, ◌-◌, ◌*◌, ◌^◌, ◌<◌, ◌≤◌, ◌∙◌, Bool, true, false, cond, eqb, List, [], ◌∷◌, ◌++◌, length, map, get_or, Option, None, Some, refl, ap, sym, subst, arith}
+use Rattle.std.proofs.Common.{◌≡◌, ◌≢◌, ◌⊎◌, inl, inr, ⊎_elim, ℕ, ℤ, ◌+◌, ◌<◌, ◌≤◌, ◌∙◌, eqb, List, [], ◌∷◌, ◌++◌, length, get_or, Option, None, Some, refl, ap, sym, subst, arith}
 use Rattle.std.specs.Prelude.{IsTrue}
-use Rattle.std.specs.List.{range_with_len}
-use Rattle.std.proofs.lemmas.Bool.{cases_eq, cases_lt, eqb-true, ne_eqb, eq-eqb}
-use Rattle.std.proofs.lemmas.List.{length-set}
-use Rattle.mv_model.specs.State.{CreatedRow, WriteSet, State}
+use Rattle.std.proofs.lemmas.Bool.{cases_eq}
+use Rattle.mv_model.specs.State.{CreatedRow, WriteSet}
 use Rattle.mv_model.specs.declared.value.Value.TheVariants.{Int}
 use Rattle.mv_model.specs.declared.call.Call.{Call}
 use Rattle.mv_model.specs.declared.call.Call.TheVariants as call
 use Rattle.mv_model.specs.declared.reply.Reply.{Reply}
 use Rattle.mv_model.specs.declared.reply.Reply.TheVariants as reply
-use Rattle.mv_model.specs.declared.limits.TheConstants.{MAX_COMMITS}
 use Rattle.mv_model.specs.Answer.{answer}
 use Rattle.mv_model.specs.History.{IsAllowed, needs_room}
-use Rattle.mv_model.specs.Next.{next, put_in_order, is_before}
+use Rattle.mv_model.specs.Next.{next}
 use Rattle.pm_model.specs.declared.action.Action.{Action}
 use Rattle.pm_model.specs.Fixed.{last_at, state_at, commit_word_at, entry_at}
-use Rattle.pm_model.specs.Plans.{Part, one_store, words_after, plan_of, finished, IsPlan}
+use Rattle.pm_model.specs.Plans.{one_store, words_after, plan_of, finished}
 use Rattle.pm_model.proofs.Alone.{length-words_after}
 use Rattle.txn_object.specs.Entries.{entry_word}
 use Rattle.txn_object.specs.Object.{begin_parts}
 use Rattle.engine_core.specs.Stage.{high_at, born_at, ended_at, value_at}
-use Rattle.engine_core.specs.StagePlans.{created_entry, insert_parts, commit_parts, close_parts}
+use Rattle.engine_core.specs.StagePlans.{created_entry, insert_parts}
 use Rattle.engine_core.specs.StageRules.{IsStage, state_word}
-use Rattle.engine_core.specs.Served.{get_of, insert_of}
-use Rattle.engine_core.specs.Decided.{IsDecided, IsFullWhere, rows_created}
+use Rattle.engine_core.specs.Served.{insert_of}
+use Rattle.mv_model.specs.View.{next_row_of}
+use Rattle.engine_core.specs.Actions.{actions_due}
+use Rattle.engine_core.specs.Decided.{IsDecided, IsFullWhere, IsRowBelow}
 use Rattle.engine_core.specs.LogicalState.{commits_in, created_row, integer_of, key_of, rows_from, rows_of, state_by, state_of}
 use Rattle.engine_core.specs.declared.transactions.Transactions.{Transactions}
 use Rattle.engine_core.specs.declared.transactions.Running.{Running}
@@ -34,8 +33,9 @@ use Rattle.engine_core.proofs.Stores.{words_after-plan, get-stored, get-beside, 
 
 -- a refusal, or a reading
 pub refused : (words : List ℕ) (now : Transactions) (call : Call) (given : Reply) → IsStage words now.running → IsAllowed (state_of words now) 1 call given
-    → next (state_of words now) 1 call given ≡ state_of words now → IsFullWhere (state_of words now) given → IsDecided words now call given [] now
-refused words now call given stage allowed same full = record {
+    → next (state_of words now) 1 call given ≡ state_of words now → IsFullWhere (state_of words now) given
+    → IsRowBelow (next_row_of (state_of words now) 0) given → 0 ≡ actions_due (state_of words now) given → IsDecided words now call given [] now
+refused words now call given stage allowed same full below counted = record {
   allowed = allowed;
   parts = [];
   plan = tt;
@@ -43,6 +43,8 @@ refused words now call given stage allowed same full = record {
   state = same;
   stage = stage;
   full = full;
+  below = below;
+  counted = counted;
   short = omega arith;
   begun = omega arith;
 }
@@ -120,6 +122,8 @@ module _ (words : List ℕ) (begun : ℕ) (stage : IsStage words None) where
         plan_is = is_actions;
         state = rw (is_snapshot, after) (begin-next (get_or words high_at 0 + 0) commits begun (begun + 1) (get_or words last_at 0) ∙ sym begin-state);
         full = tt;
+        below = tt;
+        counted = ap length is_actions;
         stage = rw after (switch-stage words 1 None (Some (record { number = begun + 1; rows = 0 })) stage refl refl refl);
         short = short;
         begun = omega arith;
@@ -228,6 +232,8 @@ module _ (words : List ℕ) (begun number rows : ℕ) (stage : IsStage words (So
             ∙ ap (λ (new : List ℕ). state_of new (record { begun = begun; running = Some (record { number = number; rows = rows + 1 }) })) (sym after);
         stage = rw after insert-stage;
         full = (fewer, omega (arith, count, few));
+        below = rw after (let h = insert-beside high_at (λ e. omega (arith, e)) (λ e. omega (arith, e)) in omega (arith, h, is_row));
+        counted = ap length is_actions;
         short = short;
         begun = omega arith;
       }
@@ -248,4 +254,4 @@ insert-full words begun number rows value stage none =
     let due : answer (state_of words before) 1 (insert_of value) ≡ reply.Row (high + rows) =
     insert-answer (high + rows) (commits_in words last) begun number last created value (omega (arith, count, few)) (omega (arith, room)) in
     refused words before (insert_of value) (reply.Full 1 0) stage (subst (λ (given : Reply). IsTrue (needs_room given)) (sym due) refl) refl
-    (refl, refl, ⊎_elim (λ (many : 60 ≤ rows). inr (omega (arith, many, few, count))) (λ (many : 4096 ≤ high + rows). inl (omega (arith, many, room))) none)
+    (refl, refl, ⊎_elim (λ (many : 60 ≤ rows). inr (omega (arith, many, few, count))) (λ (many : 4096 ≤ high + rows). inl (omega (arith, many, room))) none) tt refl

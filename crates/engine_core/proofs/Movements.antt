@@ -10,7 +10,7 @@ use Rattle.pm_model.specs.declared.action.Action.{Action}
 use Rattle.pm_model.specs.Device.{Device, acted}
 use Rattle.engine_core.specs.Decided.{IsFullWhere, IsPlacedLate}
 use Rattle.engine_core.specs.LogicalState.{logical_state}
-use Rattle.engine_core.specs.CoreState.{CoreState, EndsUnanswered, GetsEntryAtDecision, GetsNumber, GetsReply, IsEntered, IsNumbered, IsPlacedAt, Stays, Unplaced, answered, in_flight_of, pending, unanswered}
+use Rattle.engine_core.specs.CoreState.{BecomesDue, CoreState, EndsUnanswered, GetsEntryAtDecision, GetsNumber, GetsReply, IsEntered, IsNumbered, IsPlacedAt, Stays, Unplaced, answered, due, in_flight_of, pending, unanswered}
 use Rattle.engine_core.specs.Kept.{IsOnItsWay}
 use Rattle.engine_core.proofs.Placing.{placed-at}
 use Rattle.engine_core.specs.declared.decision.Late.{Late}
@@ -23,6 +23,7 @@ core_of memory opened history in_flight to_play events_left played started = rec
   memory = memory;
   opened = opened;
   history = history;
+  due = due (length history) in_flight;
   in_flight = in_flight_of in_flight;
   to_play = to_play;
   events_left = events_left;
@@ -35,19 +36,25 @@ module _ (M : Type 0) (memory after : M) (opened : List ℕ) (history new : List
       → IsPlacedAt left before placed history new → length history + pending before ≡ started
       → Stays (core_of memory opened history before to_play events played started) (core_of after opened new placed left fewer more started)
       ⊎ GetsNumber d e (core_of memory opened history before to_play events played started) (core_of after opened new placed left fewer more started)
-  plays-moves d e actions rest action flight.Idle placed is size acts way places count = inl (record { in_flight = ap in_flight_of places.0; history = places.1 })
-  plays-moves d e actions rest action (flight.Waiting said) placed is size acts way places count = inl (record { in_flight = ap in_flight_of places.0; history = places.1 })
+  plays-moves d e actions rest action flight.Idle placed is size acts way places count = inl (record { in_flight = ap in_flight_of places.0; history = places.1; due = ap (due (length new)) places.0 })
+  plays-moves d e actions rest action (flight.Waiting said) placed is size acts way places count = inl (record { in_flight = ap in_flight_of places.0; history = places.1; due = ap (due (length new)) places.0 })
   plays-moves d e actions rest action (flight.Committing number late) placed is size acts way (inl places) count = inr (record {
     number = number;
+    was_due = ap (λ (n : ℕ). unanswered n call.Commit (reply.Committed number) ∷ []) count;
     entry = record {
       was = refl;
       now = ap in_flight_of places.1;
+      due = ap (due (length new)) places.1;
       history = places.2 ∙ ap (λ (n : ℕ). history ++ unanswered n call.Commit (reply.Committed number) ∷ []) count;
     };
     at_fence = placed-at number late d e actions rest action is acts (places.0 ∙ size) way;
   })
-  plays-moves d e actions rest action (flight.Committing number late) placed is size acts way (inr places) count = inl (record { in_flight = ap in_flight_of places.1; history = places.2 })
-  plays-moves d e actions rest action (flight.Placed given) placed is size acts way places count = inl (record { in_flight = ap in_flight_of places.0; history = places.1 })
+  plays-moves d e actions rest action (flight.Committing number late) placed is size acts way (inr places) count = inl (record {
+    in_flight = ap in_flight_of places.1;
+    history = places.2;
+    due = ap (due (length new)) places.1 ∙ ap (λ (h : List Entry). due (length h) (flight.Committing number late)) places.2;
+  })
+  plays-moves d e actions rest action (flight.Placed given) placed is size acts way places count = inl (record { in_flight = ap in_flight_of places.0; history = places.1; due = ap (due (length new)) places.0 })
 
   not_numbered : (words : List ℕ) (said : Call) (given : Reply) (actions : List Action) → IsPlacedLate words None said given actions → IsNumbered given → ⊥
   not_numbered words said (reply.Committed number) actions places numbered = places
@@ -56,20 +63,29 @@ module _ (M : Type 0) (memory after : M) (opened : List ℕ) (history new : List
   pub decides-moves : (words : List ℕ) (said : Call) (given copy : Reply) (late : Option Late) (entered : Flight) (actions : List Action) → IsPlacedLate words late said given actions
       → IsEntered late said given copy history new entered → length history + 1 ≡ started → IsFullWhere (state_after (logical_state opened) history) given
       → GetsEntryAtDecision (core_of memory opened history (flight.Waiting said) to_play events played started) (core_of after opened new entered left fewer more started)
-      ⊎ ((Unplaced said ≡ Unplaced call.Commit) × Stays (core_of memory opened history (flight.Waiting said) to_play events played started) (core_of after opened new entered left fewer more started))
+      ⊎ BecomesDue (core_of memory opened history (flight.Waiting said) to_play events played started) (core_of after opened new entered left fewer more started)
   decides-moves words said given copy None entered actions places enters count full = inl (record {
     said = said;
     given = given;
     entry = record {
       was = refl;
       now = ap in_flight_of enters.1;
+      due = ap (due (length new)) enters.1;
       history = enters.0 ∙ ap (λ (n : ℕ). history ++ unanswered n said given ∷ []) count;
     };
+    none_due = refl;
     no_number = not_numbered words said given actions places;
     full = full;
   })
   decides-moves words said (reply.Committed number) copy (Some late) entered actions places enters count full =
-      inr (ap Unplaced places.0, record { in_flight = ap in_flight_of enters.1 ∙ ap Unplaced (sym places.0); history = enters.0 })
+      inr (record {
+        was = ap Unplaced places.0;
+        none_due = refl;
+        in_flight = ap in_flight_of enters.1 ∙ ap Unplaced (sym places.0);
+        history = enters.0;
+        number = late.number;
+        due = ap (due (length new)) enters.1 ∙ ap (λ (h : List Entry). due (length h) (flight.Committing late.number late.left)) enters.0 ∙ ap (λ (n : ℕ). unanswered n call.Commit (reply.Committed late.number) ∷ []) count;
+      })
   decides-moves words said given copy (Some late) entered actions places enters count full = absurd places
 
   pub replies-moves : (given : Reply) → EndsUnanswered given history → ((front : List Entry) → (last : Entry) → history ≡ front ++ last ∷ [] → new ≡ front ++ answered last ∷ [])
@@ -82,4 +98,6 @@ module _ (M : Type 0) (memory after : M) (opened : List ℕ) (history new : List
     history = ends.is;
     reply = ends.reply;
     answered_now = marked ends.front ends.last ends.is;
+    none_due = refl;
+    due = refl;
   }

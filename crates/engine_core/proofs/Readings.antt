@@ -1,15 +1,14 @@
 -- What the open transaction reads.
-use Rattle.std.proofs.Common.{◌≡◌, ℕ, ◌+◌, ◌≤◌, ◌∙◌, Bool, true, false, not, ◌&&◌, ◌||◌, cond, List, [], ◌∷◌, ◌++◌, length, take, get_or, Option, None, Some, refl, ap, sym, subst, arith}
+use Rattle.std.proofs.Common.{◌≡◌, ℕ, ◌∙◌, Bool, true, false, not, ◌&&◌, ◌||◌, cond, List, [], ◌∷◌, ◌++◌, take, get_or, Option, None, Some, refl, ap, sym, subst, arith}
 use Rattle.std.specs.Prelude.{option_map}
 use Rattle.std.specs.Option.{option_map_or}
 use Rattle.std.specs.List.{find, list_any}
 use Rattle.std.proofs.lemmas.List.{take_all}
-use Rattle.mv_model.specs.State.{CreatedRow, WriteSet, State}
+use Rattle.mv_model.specs.State.{CreatedRow, WriteSet}
 use Rattle.mv_model.specs.View.{created_rows, ended_rows, is_key_of}
 use Rattle.mv_model.specs.declared.value.Value.TheVariants.{Int}
 use Rattle.mv_model.specs.declared.reply.Reply.TheVariants as reply
 use Rattle.mv_model.specs.Answer.{answer}
-use Rattle.mv_model.specs.History.{IsAllowed}
 use Rattle.pm_model.specs.Fixed.{last_at}
 use Rattle.engine_core.specs.Stage.{high_at, born_at, ended_at, value_at}
 use Rattle.engine_core.specs.StageRules.{IsStage}
@@ -58,11 +57,11 @@ module _ (words : List ℕ) (begun number rows row : ℕ) where
       (record { begun = begun; running = Some (record { number = number; rows = rows }) })
   get-seen stage seen =
       refused words (record { begun = begun; running = Some (record { number = number; rows = rows }) }) (get_of row) (reply.Values (Int (integer_of (get_or words (value_at row) 0)) ∷ [])) stage
-      (sym (get-due ∙ ap (λ (b : Bool). cond b (reply.Values (Int (integer_of (get_or words (value_at row) 0)) ∷ [])) reply.NoRow) seen)) refl tt
+      (sym (get-due ∙ ap (λ (b : Bool). cond b (reply.Values (Int (integer_of (get_or words (value_at row) 0)) ∷ [])) reply.NoRow) seen)) refl tt tt refl
 
   pub get-unseen : IsStage words (Some (record { number = number; rows = rows })) → is_seen words rows row ≡ false
       → IsDecided words (record { begun = begun; running = Some (record { number = number; rows = rows }) }) (get_of row) reply.NoRow []
       (record { begun = begun; running = Some (record { number = number; rows = rows }) })
   get-unseen stage unseen =
       refused words (record { begun = begun; running = Some (record { number = number; rows = rows }) }) (get_of row) reply.NoRow stage
-      (sym (get-due ∙ ap (λ (b : Bool). cond b (reply.Values (Int (integer_of (get_or words (value_at row) 0)) ∷ [])) reply.NoRow) unseen)) refl tt
+      (sym (get-due ∙ ap (λ (b : Bool). cond b (reply.Values (Int (integer_of (get_or words (value_at row) 0)) ∷ [])) reply.NoRow) unseen)) refl tt tt refl

@@ -1,12 +1,10 @@
 -- The rows of the table that pass a test, and what commits create and end.
-use Rattle.std.proofs.Common.{◌≡◌, ◌⊎◌, inl, inr, ⊎_elim, ℕ, zero, suc, ◌+◌, ◌-◌, ◌<◌, ◌≤◌, ◌∙◌, Bool, true, false, cond, ◌&&◌, ◌||◌, eqb, ltb, leb, List, [], ◌∷◌, ◌++◌, length, map, filter, get_or, Option, None, Some, refl, ap, sym, subst, append-nil, append_assoc, arith}
-use Rattle.std.specs.Option.{option_or}
+use Rattle.std.proofs.Common.{◌≡◌, ⊎_elim, ℕ, zero, suc, ◌+◌, ◌-◌, ◌<◌, ◌≤◌, ◌∙◌, Bool, true, false, cond, ◌&&◌, ◌||◌, eqb, List, [], ◌∷◌, ◌++◌, length, map, filter, get_or, None, Some, refl, ap, sym, append-nil, append_assoc, arith}
 use Rattle.std.specs.List.{range_with_len, find, flat_map, list_any}
-use Rattle.std.proofs.lemmas.Bool.{cases_Bool, cases_eq, cases_lt, cond-true, cond-false, eq-eqb, ne_eqb, eqb-true, eqb-false, ltb-true, ltb-false, leb-true, leb-false, lt-ltb, le-ltb, le-leb, lt-leb, both_ways, and_from, and_left, and_right, and_parts, or_from, false≢true}
+use Rattle.std.proofs.lemmas.Bool.{cases_eq, eq-eqb, ne_eqb, eqb-true, and_left}
 use Rattle.std.proofs.lemmas.List.FromFn.{map-range_with_len_more, length-map-range_with_len}
 use Rattle.std.proofs.lemmas.List.Elements.{filter-append}
-use Rattle.std.proofs.lemmas.List.Folds.{find-append}
-use Rattle.mv_model.specs.State.{CreatedRow, RowKey, WriteSet}
+use Rattle.mv_model.specs.State.{CreatedRow, RowKey}
 use Rattle.mv_model.specs.View.{is_key_of, created_rows, ended_rows}
 use Rattle.mv_model.specs.declared.value.Value.TheVariants.{Int}
 use Rattle.std.proofs.lemmas.Bool.Decides.{nat_tests}

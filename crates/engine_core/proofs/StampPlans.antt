@@ -1,12 +1,11 @@
 -- The stores of the part that stamps rows.
-use Rattle.std.proofs.Common.{◌≡◌, ℕ, ◌+◌, ◌-◌, ◌*◌, ◌<◌, ◌≤◌, ◌∙◌, List, [], ◌∷◌, ◌++◌, length, map, drop, refl, ap, sym, arith}
+use Rattle.std.proofs.Common.{◌≡◌, ℕ, ◌+◌, ◌-◌, ◌*◌, ◌≤◌, ◌∙◌, List, [], ◌∷◌, ◌++◌, length, map, drop, refl, ap, sym, arith}
 use Rattle.std.specs.List.{range_with_len}
-use Rattle.std.proofs.lemmas.List.{length-append}
 use Rattle.std.proofs.lemmas.List.FromFn.{map-range_with_len_more}
 use Rattle.pm_model.specs.declared.action.Action.{Action}
 use Rattle.pm_model.specs.declared.action.Action.TheVariants.{Store}
 use Rattle.pm_model.specs.declared.place.Place.{Place}
-use Rattle.pm_model.specs.Plans.{store, stores, one_store, lines_of, part_end, part_actions}
+use Rattle.pm_model.specs.Plans.{store, stores, part_actions}
 use Rattle.txn_object.proofs.Clears.{length-part_actions}
 use Rattle.engine_core.specs.Stage.{high_at, born_at}
 use Rattle.engine_core.specs.StagePlans.{stamp_part}

@@ -1,16 +1,13 @@
 -- The replies that are due in a state of the one table, and the states that they leave.
-use Rattle.std.proofs.Common.{◌≡◌, ℕ, ℤ, zero, suc, ◌+◌, ◌<◌, ◌≤◌, ◌==◌, ◌∙◌, true, false, List, [], ◌∷◌, ◌++◌, length, map, Option, None, Some, refl, ap, sym, arith}
+use Rattle.std.proofs.Common.{◌≡◌, ℕ, ℤ, zero, suc, ◌+◌, ◌<◌, ◌≤◌, ◌==◌, true, false, List, [], ◌∷◌, ◌++◌, length, Option, None, Some, refl, ap, arith}
 use Rattle.std.specs.Prelude.{nat_lt, nat_le}
-use Rattle.std.specs.List.{range_with_len}
 use Rattle.std.proofs.lemmas.Bool.Decides.{nat_tests}
-use Rattle.std.proofs.lemmas.List.FromFn.{map-range_with_len_more}
-use Rattle.mv_model.specs.State.{CreatedRow, WriteSet, Transaction, State, no_writes}
+use Rattle.mv_model.specs.State.{CreatedRow, WriteSet, Transaction}
 use Rattle.mv_model.specs.declared.value.Value.TheVariants.{Int}
-use Rattle.mv_model.specs.declared.reply.Reply.{Reply}
 use Rattle.mv_model.specs.declared.reply.Reply.TheVariants as reply
 use Rattle.mv_model.specs.declared.call.Call.TheVariants as call
 use Rattle.mv_model.specs.declared.limits.TheConstants.{MAX_COMMITS, MAX_ROWS, MAX_WRITES}
-use Rattle.mv_model.specs.Answer.{answer, get_reply, writes_of}
+use Rattle.mv_model.specs.Answer.{answer, get_reply}
 use Rattle.mv_model.specs.Next.{next, is_before, put_in_order}
 use Rattle.engine_core.specs.Served.{get_of, insert_of}
 use Rattle.engine_core.specs.LogicalState.{created_row, key_of, rows_from, state_by}

@@ -1,9 +1,9 @@
 -- Each event keeps what a core keeps.
 use Rattle.std.proofs.Common.{◌≡◌, ◌≢◌, inl, inr, ⊎_elim, ℕ, ◌+◌, ◌<◌, ◌≤◌, ◌∙◌, Bool, true, false, List, [], ◌∷◌, ◌++◌, length, get_or, Option, None, Some, refl, ap, sym, subst, append-nil, arith}
-use Rattle.std.specs.Prelude.{IsTrue}
-use Rattle.std.proofs.lemmas.Bool.{cases_Bool, cond-true, cond-false}
+use Rattle.std.specs.Prelude.{All, IsTrue}
+use Rattle.std.proofs.lemmas.Bool.{cases_Bool, cases_lt, cond-true, cond-false}
 use Rattle.std.proofs.lemmas.List.{length-append}
-use Rattle.std.proofs.lemmas.List.Elements.{All-append, All-cons, All-nil}
+use Rattle.std.proofs.lemmas.List.Elements.{All-append, All-cons, All-head, All-nil, All-push, All-weaker}
 use Rattle.mv_model.specs.declared.call.Call.{Call}
 use Rattle.mv_model.specs.declared.call.Call.TheVariants as call
 use Rattle.mv_model.specs.declared.reply.Reply.{Reply}
@@ -14,19 +14,26 @@ use Rattle.mv_model.specs.History.{IsAllowed, IsLegal, state_after}
 use Rattle.mv_model.specs.Next.{next}
 use Rattle.pm_model.specs.declared.action.Action.{Action}
 use Rattle.pm_model.specs.declared.action.Action.TheVariants.{Store, Flush, Fence, Punch}
-use Rattle.pm_model.specs.Device.{Device, acted, CanAct, IsClean, writes}
+use Rattle.pm_model.specs.Device.{Device, acted, CanAct, IsClean, IsCrashImage, writes}
 use Rattle.pm_model.specs.Plans.{Play, Part, IsPlaying, IsPlan, words_after, plan_of, footprint, at_rest}
-use Rattle.pm_model.proofs.Words.{cached_after-kept, get_or-choose_by}
+use Rattle.pm_model.proofs.Words.{cached_after-kept, ext_words, get_or-choose_by}
 use Rattle.pm_model.proofs.PlanLaw.{plan_begins, plan_can_act, plan_goes_on, plan_owns, plan_ends}
-use Rattle.engine_core.specs.Decided.{IsCommitPlan, IsDecided, IsPlacedLate}
+use Rattle.mv_model.specs.View.{next_row_of}
+use Rattle.engine_core.specs.Actions.{actions_due, actions_in}
+use Rattle.engine_core.specs.Recoverable.{Fits}
+use Rattle.engine_core.specs.Survival.{IsShown, IsShownWhile, SurvivesCuts}
+use Rattle.engine_core.specs.Decided.{IsCommitPlan, IsDecided, IsPlacedLate, IsRowBelow}
 use Rattle.engine_core.specs.LogicalState.{logical_state, state_of}
-use Rattle.engine_core.specs.CoreState.{IsEntered, IsOfOne, IsPlacedAt, answered, unanswered}
-use Rattle.engine_core.specs.Kept.{IsKept, IsUnderWay}
+use Rattle.engine_core.specs.CoreState.{due, IsEntered, IsOfOne, IsPlacedAt, Nothing, answered, in_flight_of, unanswered}
+use Rattle.engine_core.specs.Kept.{IsKept, IsSafe, IsUnderWay}
 use Rattle.engine_core.specs.Served.{is_served}
 use Rattle.engine_core.specs.declared.decision.Late.{Late}
 use Rattle.engine_core.specs.declared.flight.Flight.{Flight}
 use Rattle.engine_core.specs.declared.flight.Flight.TheVariants as flight
 use Rattle.engine_core.specs.declared.transactions.Transactions.{Transactions}
+use Rattle.engine_core.proofs.ImageFacts.{all-left, all-right}
+use Rattle.engine_core.proofs.Recoveries.{actions_in-answered, actions_in-more, given-all, given-more, recovers, recovers-more, row-below}
+use Rattle.engine_core.proofs.Survivals.{holds-end, holds-map, holds-now, holds-plays, rest-shown, survives-holds}
 use Rattle.engine_core.proofs.Placing.{committing-begins, committing-plays}
 use Rattle.engine_core.proofs.Histories.{legal-answered, legal-more, of_one-answered, of_one-more, state_after-answered, state_after-more}
 
@@ -125,6 +132,10 @@ module _ (opened : List ℕ) where
         begun = kept.begun;
         bounded = let below = kept.bounded in let size = ap length is in omega (arith, below, size, one);
         actions = let a = kept.actions in omega (arith, a, one);
+        safe = holds-plays (IsSafe opened history (flight.Placed given)) d after left rest action is acts kept.safe;
+        least = rw words kept.least;
+        rows = rw words kept.rows;
+        counted = let c = kept.counted in let size = ap length is in omega (arith, c, size);
       }
 
   plays_early : (d after : Device) (history : List Entry) (now : Transactions) (left rest : List Action) (action : Action) (number late events fewer played started : ℕ)
@@ -145,14 +156,18 @@ module _ (opened : List ℕ) where
         begun = kept.begun;
         bounded = let below = kept.bounded in let size = ap length is in (omega (arith, below.0, size, apart), omega (arith, below.1, size, one));
         actions = let a = kept.actions in omega (arith, a, one);
+        safe = holds-plays (IsSafe opened history (flight.Committing number late)) d after left rest action is acts kept.safe;
+        least = rw words kept.least;
+        rows = rw words kept.rows;
+        counted = let c = kept.counted in let size = ap length is in omega (arith, c, size);
       }
 
   -- a commit gets its place
   plays_commit : (d after : Device) (history : List Entry) (now : Transactions) (left rest : List Action) (action : Action) (number late events fewer played started : ℕ)
-      → left ≡ action ∷ rest → after ≡ acted 1 action d → events ≡ fewer + 1
+      → left ≡ action ∷ rest → after ≡ acted 1 action d → events ≡ fewer + 1 → late ≡ length rest
       → IsKept d opened history now left (flight.Committing number late) events played started
       → IsKept after opened (history ++ unanswered (length history + 1) call.Commit (reply.Committed number) ∷ []) now rest (flight.Placed (reply.Committed number)) fewer (played + 1) started
-  plays_commit d after history now left rest action number late events fewer played started is acts one kept =
+  plays_commit d after history now left rest action number late events fewer played started is acts one at kept =
       let words = words-played d after left rest action is acts in
       let entry = unanswered (length history + 1) call.Commit (reply.Committed number) in
       let none = append-nil (history ++ entry ∷ []) in
@@ -170,6 +185,12 @@ module _ (opened : List ℕ) where
         begun = subst (λ (h : List Entry). now.begun ≤ length h) (sym none) kept.begun;
         bounded = let below = kept.bounded in let size = ap length is in omega (arith, below.1, size, one);
         actions = let a = kept.actions in omega (arith, a, one);
+        safe = holds-map (IsSafe opened history (flight.Committing number late)) (IsSafe opened (history ++ entry ∷ []) (flight.Placed (reply.Committed number))) rest after
+            (λ k image le safe. (safe.0, recovers-more opened history (history ++ entry ∷ []) entry image refl (safe.1.0 (omega (arith, le, at)))))
+            (holds-plays (IsSafe opened history (flight.Committing number late)) d after left rest action is acts kept.safe);
+        least = rw words kept.least;
+        rows = rw words (All-push (λ e. IsRowBelow (next_row_of (state_of (words_after left d.cached) now) 0) e.reply) history entry kept.rows tt);
+        counted = let c = kept.counted in let size = ap length is in let all = ap (actions_in (logical_state opened)) none in omega (arith, c, size, all);
       }
 
   -- an action
@@ -187,7 +208,7 @@ module _ (opened : List ℕ) where
       empty : [] ≡ action ∷ rest → ⊥
       empty e = cc
   plays d after history new now left rest action (flight.Committing number late) placed events fewer played started is acts one (inl places) kept =
-      rw (places.1, places.2) (plays_commit d after history now left rest action number late events fewer played started is acts one kept)
+      rw (places.1, places.2) (plays_commit d after history now left rest action number late events fewer played started is acts one places.0 kept)
   plays d after history new now left rest action (flight.Committing number late) placed events fewer played started is acts one (inr places) kept =
       rw (places.1, places.2) (plays_early d after history now left rest action number late events fewer played started is acts one places.0 kept)
   plays d after history new now left rest action (flight.Placed given) placed events fewer played started is acts one places kept =
@@ -200,15 +221,24 @@ module _ (opened : List ℕ) where
 
   decides_now : (d : Device) (history : List Entry) (now next_now : Transactions) (said : Call) (given copy : Reply) (actions : List Action) (events fewer played started : ℕ)
       → events ≡ fewer + 1 → copy ≡ given → IsDecided d.cached now said given actions next_now
+      → (Fits d.cached → SurvivesCuts (IsShownWhile (state_of d.cached now) (state_of (words_after actions d.cached) next_now) None) d.cached actions)
       → IsKept d opened history now [] (flight.Waiting said) events played started
       → IsKept d opened (history ++ unanswered (length history + 1) said given ∷ []) next_now actions (flight.Placed copy) fewer played started
-  decides_now d history now next_now said given copy actions events fewer played started one copied decided kept =
+  decides_now d history now next_now said given copy actions events fewer played started one copied decided survives kept =
       let entry = unanswered (length history + 1) said given in
       let none = append-nil (history ++ entry ∷ []) in
       let before = state_now d history now said events played started kept in
       let legal = legal-more (logical_state opened) history entry kept.legal kept.alone refl refl (subst (λ (s : State). IsAllowed s 1 said given) (sym before) decided.allowed) in
       let size_more = length-append history (entry ∷ []) in
       let short = decided.short in
+      let size : length d.durable ≡ length d.cached = kept.under_way.playing.looks.durable_size ∙ sym kept.under_way.playing.looks.cached_size in
+      let clean = all-clean d [] refl kept.under_way in
+      let fits = (holds-now (IsSafe opened history (flight.Waiting said)) [] d kept.safe d.cached (record { size = sym size; each = λ w. inr refl })).0 in
+      let holds = survives-holds (IsShownWhile (state_of d.cached now) (state_of (words_after actions d.cached) next_now) None) d actions clean size (survives fits) in
+      let shown_now = holds-now (IsShownWhile (state_of d.cached now) (state_of (words_after actions d.cached) next_now) None) actions d holds d.cached (record { size = sym size; each = λ w. inr refl }) in
+      let low = shown_now.least in
+      let high = shown_now.most in
+      let more_rows : next_row_of (state_of d.cached now) 0 ≤ next_row_of (state_of (words_after actions d.cached) next_now) 0 = omega (arith, low, high) in
       record {
         legal = legal;
         legal_due = subst (λ (h : List Entry). IsLegal (logical_state opened) h) (sym none) legal;
@@ -222,17 +252,50 @@ module _ (opened : List ℕ) where
         begun = let b = kept.begun in let more = decided.begun in let nothing = ap length (append-nil history) in let all = ap length none in omega (arith, b, more, nothing, size_more, all);
         bounded = let some = kept.bounded.1 in omega (arith, some, short, one);
         actions = let a = kept.actions in omega (arith, a, one);
+        safe = holds-map (IsShownWhile (state_of d.cached now) (state_of (words_after actions d.cached) next_now) None) (IsSafe opened (history ++ entry ∷ []) (flight.Placed copy)) actions d
+            (λ k image le shown. (
+              shown.fits,
+              recovers opened (words_after actions d.cached) (history ++ entry ∷ []) (history ++ entry ∷ []) next_now (next_row_of (state_of d.cached now) 0) image
+                  (state_after-more (logical_state opened) history entry ∙ ap (λ (s : State). next s 1 said given) before ∙ decided.state)
+                  kept.least (given-more history entry (next_row_of (state_of d.cached now) 0) refl (given-all history (next_row_of (state_of d.cached now) 0) kept.rows)) shown.commits shown.least shown.most,
+            ))
+            holds;
+        least = let l = kept.least in omega (arith, l, more_rows);
+        rows = All-push (λ e. IsRowBelow (next_row_of (state_of (words_after actions d.cached) next_now) 0) e.reply) history entry
+            (All-weaker (λ (e : Entry). IsRowBelow (next_row_of (state_of d.cached now) 0) e.reply) (λ (e : Entry). IsRowBelow (next_row_of (state_of (words_after actions d.cached) next_now) 0) e.reply)
+            (λ e below. row-below e.reply (next_row_of (state_of d.cached now) 0) (next_row_of (state_of (words_after actions d.cached) next_now) 0) more_rows below) history kept.rows)
+            decided.below;
+        counted = let c = kept.counted in let nothing = ap (actions_in (logical_state opened)) (append-nil history) in let all = ap (actions_in (logical_state opened)) none in
+            let more = actions_in-more (logical_state opened) history entry in
+            let due_now : length actions ≡ actions_due (state_after (logical_state opened) history) given = decided.counted ∙ ap (λ (s : State). actions_due s given) (sym before) in
+            omega (arith, c, nothing, all, more, due_now);
       }
 
   decides_late : (d : Device) (history : List Entry) (now next_now : Transactions) (number late : ℕ) (actions : List Action) (events fewer played started : ℕ)
       → events ≡ fewer + 1 → late < length actions → IsCommitPlan d.cached number late actions → IsDecided d.cached now call.Commit (reply.Committed number) actions next_now
+      → (Fits d.cached → SurvivesCuts (IsShownWhile (state_of d.cached now) (state_of (words_after actions d.cached) next_now) (Some (record { number = number; left = late }))) d.cached actions)
       → IsKept d opened history now [] (flight.Waiting call.Commit) events played started
       → IsKept d opened history next_now actions (flight.Committing number late) fewer played started
-  decides_late d history now next_now number late actions events fewer played started one later planned decided kept =
+  decides_late d history now next_now number late actions events fewer played started one later planned decided survives kept =
       let entry = unanswered (length history + 1) call.Commit (reply.Committed number) in
       let before = state_now d history now call.Commit events played started kept in
       let size_more = length-append history (entry ∷ []) in
       let short = decided.short in
+      let size : length d.durable ≡ length d.cached = kept.under_way.playing.looks.durable_size ∙ sym kept.under_way.playing.looks.cached_size in
+      let clean = all-clean d [] refl kept.under_way in
+      let fits = (holds-now (IsSafe opened history (flight.Waiting call.Commit)) [] d kept.safe d.cached (record { size = sym size; each = λ w. inr refl })).0 in
+      let holds = survives-holds (IsShownWhile (state_of d.cached now) (state_of (words_after actions d.cached) next_now) (Some (record { number = number; left = late }))) d actions clean size (survives fits) in
+      let last = (holds-end (IsShownWhile (state_of d.cached now) (state_of (words_after actions d.cached) next_now) (Some (record { number = number; left = late }))) actions d holds).0 (omega arith) in
+      let low = last.least in
+      let high = last.most in
+      let more_rows : next_row_of (state_of d.cached now) 0 ≤ next_row_of (state_of (words_after actions d.cached) next_now) 0 = omega (arith, low, high) in
+      let given = given-all history (next_row_of (state_of d.cached now) 0) kept.rows in
+      let then : state_after (logical_state opened) (history ++ entry ∷ []) ≡ state_of (words_after actions d.cached) next_now =
+      state_after-more (logical_state opened) history entry ∙ ap (λ (s : State). next s 1 call.Commit (reply.Committed number)) before ∙ decided.state in
+      let old = λ (image : List ℕ) (shown : IsShown (state_of d.cached now) (state_of d.cached now) image).
+      recovers opened d.cached history history now (next_row_of (state_of d.cached now) 0) image before kept.least given shown.commits shown.least shown.most in
+      let new = λ (image : List ℕ) (shown : IsShown (state_of d.cached now) (state_of (words_after actions d.cached) next_now) image).
+      recovers opened (words_after actions d.cached) history (history ++ entry ∷ []) next_now (next_row_of (state_of d.cached now) 0) image then kept.least given shown.commits shown.least shown.most in
       record {
         legal = kept.legal;
         legal_due = legal-more (logical_state opened) history entry kept.legal kept.alone refl refl (subst (λ (s : State). IsAllowed s 1 call.Commit (reply.Committed number)) (sym before) decided.allowed);
@@ -246,20 +309,38 @@ module _ (opened : List ℕ) where
         begun = let b = kept.begun in let more = decided.begun in let nothing = ap length (append-nil history) in omega (arith, b, more, nothing, size_more);
         bounded = (later, (let some = kept.bounded.1 in omega (arith, some, short, one)));
         actions = let a = kept.actions in omega (arith, a, one);
+        safe = holds-map (IsShownWhile (state_of d.cached now) (state_of (words_after actions d.cached) next_now) (Some (record { number = number; left = late }))) (IsSafe opened history (flight.Committing number late)) actions d
+            (λ k image le shown. ⊎_elim
+            (λ (far : late < k). ⊎_elim
+            (λ before_it. (before_it.fits, ((λ near. absurd (omega (arith, near, far))), (λ _. inl (old image before_it)))))
+            (λ with_it. (with_it.0.fits, ((λ near. absurd (omega (arith, near, far))), (λ _. inr (new image with_it.0, with_it.1)))))
+            (shown.1 far))
+            (λ (near : k ≤ late). ((shown.0 near).fits, ((λ _. new image (shown.0 near)), (λ far. absurd (omega (arith, near, far))))))
+            (cases_lt late k))
+            holds;
+        least = let l = kept.least in omega (arith, l, more_rows);
+        rows = All-weaker (λ (e : Entry). IsRowBelow (next_row_of (state_of d.cached now) 0) e.reply) (λ (e : Entry). IsRowBelow (next_row_of (state_of (words_after actions d.cached) next_now) 0) e.reply)
+            (λ e below. row-below e.reply (next_row_of (state_of d.cached now) 0) (next_row_of (state_of (words_after actions d.cached) next_now) 0) more_rows below) history kept.rows;
+        counted = let c = kept.counted in let nothing = ap (actions_in (logical_state opened)) (append-nil history) in
+            let more = actions_in-more (logical_state opened) history entry in
+            let due_now : length actions ≡ actions_due (state_after (logical_state opened) history) (reply.Committed number) = decided.counted ∙ ap (λ (s : State). actions_due s (reply.Committed number)) (sym before) in
+            omega (arith, c, nothing, more, due_now);
       }
 
   -- a decision
   pub decides : (d : Device) (history new : List Entry) (now next_now : Transactions) (said : Call) (given copy : Reply) (late : Option Late) (entered : Flight) (actions : List Action) (events fewer played started : ℕ)
       → events ≡ fewer + 1 → copy ≡ given → IsPlacedLate d.cached late said given actions → IsEntered late said given copy history new entered → IsDecided d.cached now said given actions next_now
+      → (Fits d.cached → SurvivesCuts (IsShownWhile (state_of d.cached now) (state_of (words_after actions d.cached) next_now) late) d.cached actions)
       → IsKept d opened history now [] (flight.Waiting said) events played started → IsKept d opened new next_now actions entered fewer played started
-  decides d history new now next_now said given copy None entered actions events fewer played started one copied places enters decided kept =
-      rw (enters.0, enters.1) (decides_now d history now next_now said given copy actions events fewer played started one copied decided kept)
-  decides d history new now next_now said (reply.Committed number) copy (Some late) entered actions events fewer played started one copied places enters decided kept =
+  decides d history new now next_now said given copy None entered actions events fewer played started one copied places enters decided survives kept =
+      rw (enters.0, enters.1) (decides_now d history now next_now said given copy actions events fewer played started one copied decided survives kept)
+  decides d history new now next_now said (reply.Committed number) copy (Some late) entered actions events fewer played started one copied places enters decided survives kept =
       rw (enters.0, enters.1, places.1)
       (decides_late d history now next_now number late.left actions events fewer played started one places.2 places.3
       (subst (λ (c : Call). IsDecided d.cached now c (reply.Committed number) actions next_now) places.0 decided)
+      (subst (λ (n : ℕ). Fits d.cached → SurvivesCuts (IsShownWhile (state_of d.cached now) (state_of (words_after actions d.cached) next_now) (Some (record { number = n; left = late.left }))) d.cached actions) places.1 survives)
       (subst (λ (c : Call). IsKept d opened history now [] (flight.Waiting c) events played started) places.0 kept))
-  decides d history new now next_now said given copy (Some late) entered actions events fewer played started one copied places enters decided kept = absurd places
+  decides d history new now next_now said given copy (Some late) entered actions events fewer played started one copied places enters decided survives kept = absurd places
 
   -- a reply
   pub replies : (d : Device) (history new : List Entry) (now : Transactions) (given : Reply) (events fewer played started : ℕ) → events ≡ fewer + 1
@@ -274,6 +355,19 @@ module _ (opened : List ℕ) where
       let size_old = length-append ends.front (ends.last ∷ []) in
       let size_new = length-append ends.front (answered ends.last ∷ []) in
       let size = ap length ends.is in
+      let length_is : length d.durable ≡ length d.cached = kept.under_way.playing.looks.durable_size ∙ sym kept.under_way.playing.looks.cached_size in
+      let clean = all-clean d [] refl kept.under_way in
+      let same = λ (image : List ℕ) (cut : IsCrashImage d image). ext_words image d.cached (cut.size ∙ length_is) (λ w. ⊎_elim (λ durable. durable ∙ sym (clean w)) (λ cached. cached) (cut.each w)) in
+      let fits = (holds-now (IsSafe opened history (flight.Placed given)) [] d kept.safe d.cached (record { size = sym length_is; each = λ w. inr refl })).0 in
+      let old = subst (λ (h : List Entry). All (λ e. IsRowBelow (next_row_of (state_of d.cached now) 0) e.reply) h) ends.is kept.rows in
+      let rows = All-push (λ (e : Entry). IsRowBelow (next_row_of (state_of d.cached now) 0) e.reply) ends.front (answered ends.last)
+      (all-left (λ (e : Entry). IsRowBelow (next_row_of (state_of d.cached now) 0) e.reply) ends.front (ends.last ∷ []) old)
+      (All-head (λ (e : Entry). IsRowBelow (next_row_of (state_of d.cached now) 0) e.reply) ends.last [] (all-right (λ (e : Entry). IsRowBelow (next_row_of (state_of d.cached now) 0) e.reply) ends.front (ends.last ∷ []) old)) in
+      let now_is : state_after (logical_state opened) (ends.front ++ answered ends.last ∷ []) ≡ state_of d.cached now =
+      state_after-answered (logical_state opened) ends.front ends.last ∙ ap (state_after (logical_state opened)) (sym (none_old ∙ ends.is)) ∙ kept.represents in
+      let rest = rest-shown d.cached now fits kept.stage in
+      let recovered = recovers opened d.cached (ends.front ++ answered ends.last ∷ []) (ends.front ++ answered ends.last ∷ []) now (next_row_of (state_of d.cached now) 0) d.cached now_is kept.least
+      (given-all (ends.front ++ answered ends.last ∷ []) (next_row_of (state_of d.cached now) 0) rows) rest.commits rest.least rest.most in
       rw is_new (record {
         legal = legal;
         legal_due = subst (λ (h : List Entry). IsLegal (logical_state opened) h) (sym none) legal;
@@ -289,6 +383,11 @@ module _ (opened : List ℕ) where
         begun = let b = kept.begun in let l = ap length none_old in let m = ap length none in omega (arith, b, l, m, size, size_old, size_new);
         bounded = refl;
         actions = let a = kept.actions in omega (arith, a, one);
+        safe = λ image cut. subst (λ (i : List ℕ). IsSafe opened (ends.front ++ answered ends.last ∷ []) flight.Idle 0 i) (sym (same image cut)) (fits, recovered);
+        least = kept.least;
+        rows = rows;
+        counted = let c = kept.counted in let l = ap (actions_in (logical_state opened)) none_old in let m = ap (actions_in (logical_state opened)) none in
+            let h = ap (actions_in (logical_state opened)) ends.is in let a = actions_in-answered (logical_state opened) ends.front ends.last in omega (arith, c, l, m, h, a);
       })
 
   -- a call
@@ -307,4 +406,26 @@ module _ (opened : List ℕ) where
     begun = kept.begun;
     bounded = (kept.bounded, omega arith, served);
     actions = let a = kept.actions in omega (arith, a);
+    safe = kept.safe;
+    least = kept.least;
+    rows = kept.rows;
+    counted = kept.counted;
   }
+
+  -- with no call in flight each word is durable
+  pub rests : (d : Device) (history : List Entry) (now : Transactions) (left : List Action) (in_flight : Flight) (events played started : ℕ) → IsKept d opened history now left in_flight events played started
+      → in_flight_of in_flight ≡ Nothing → d.durable ≡ d.cached
+  rests d history now left flight.Idle events played started kept none =
+      let clean = all-clean d left kept.bounded kept.under_way in
+      ext_words d.durable d.cached (kept.under_way.playing.looks.durable_size ∙ sym kept.under_way.playing.looks.cached_size) (λ w. sym (clean w))
+  rests d history now left (flight.Waiting said) events played started kept none = cc
+  rests d history now left (flight.Committing number late) events played started kept none = cc
+  rests d history now left (flight.Placed given) events played started kept none = cc
+
+  -- and nothing is left to play or due
+  pub rests-idle : (d : Device) (history : List Entry) (now : Transactions) (left : List Action) (in_flight : Flight) (events played started : ℕ) → IsKept d opened history now left in_flight events played started
+      → in_flight_of in_flight ≡ Nothing → (length left ≡ 0) × (due (length history) in_flight ≡ [])
+  rests-idle d history now left flight.Idle events played started kept none = (ap length kept.bounded, refl)
+  rests-idle d history now left (flight.Waiting said) events played started kept none = cc
+  rests-idle d history now left (flight.Committing number late) events played started kept none = cc
+  rests-idle d history now left (flight.Placed given) events played started kept none = cc

@@ -1,5 +1,5 @@
 -- What contracts see of a core.
-use Rattle.std.specs.Prelude.{◌≡◌, ◌≢◌, ◌⊎◌, ℕ, Option, Some, None, ◌+◌, ◌≤◌, true, false, List, [], ◌∷◌, ◌++◌, length, slice_index, All}
+use Rattle.std.specs.Prelude.{◌≡◌, ◌≢◌, ◌⊎◌, ℕ, Option, Some, None, ◌+◌, true, false, List, [], ◌∷◌, ◌++◌, length, slice_index, All}
 use Rattle.mv_model.specs.declared.call.Call.{Call}
 use Rattle.mv_model.specs.declared.call.Call.TheVariants as call
 use Rattle.mv_model.specs.declared.reply.Reply.{Reply}
@@ -9,9 +9,7 @@ use Rattle.mv_model.specs.History.{state_after}
 use Rattle.pm_model.specs.declared.action.Action.{Action}
 use Rattle.pm_model.specs.declared.action.Action.TheVariants.{Fence}
 use Rattle.pm_model.specs.Device.{Device, acted}
-use Rattle.pm_model.specs.Plans.{at_rest}
 use Rattle.pm_model.specs.Fixed.{last_at, commit_word_at}
-use Rattle.engine_core.specs.Stage.{stage_words}
 use Rattle.engine_core.specs.Decided.{IsFullWhere}
 use Rattle.engine_core.specs.LogicalState.{logical_state}
 use Rattle.engine_core.specs.declared.decision.Late.{Late}
@@ -26,12 +24,14 @@ pub data InFlight : Type 0 where
   Unplaced : Call → InFlight
   Last : InFlight
 
--- a core: its memory, the words at its opening, the history since then, the call in flight, how many actions of its plan
--- are left, how many more events it may take, how many actions were played and how many calls were started
+-- a core: its memory, the words at its opening, the history since then, the entry that a commit is to get that was decided
+-- and has no place yet, the call in flight, how many actions of its plan are left, how many more events it may take, how many
+-- actions were played and how many calls were started
 pub record CoreState (M : Type 0) : Type 0 where
   pub memory : M
   pub opened : List ℕ
   pub history : List Entry
+  pub due : List Entry
   pub in_flight : InFlight
   pub to_play : ℕ
   pub events_left : ℕ
@@ -114,6 +114,11 @@ IsAnsweredButFor Nothing history = All (λ entry. entry.answered ≡ true) histo
 IsAnsweredButFor (Unplaced said) history = All (λ entry. entry.answered ≡ true) history
 IsAnsweredButFor Last history = (given : Reply) × EndsUnanswered given history
 
+-- nothing is due, or the entry of a commit in flight, which comes next in the history
+abbrev pub IsDueNext : InFlight → List Entry → List Entry → Type 0
+IsDueNext in_flight history entries =
+    (entries ≡ []) ⊎ ((in_flight ≡ Unplaced call.Commit) × ((number : ℕ) × (entries ≡ unanswered (length history + 1) call.Commit (reply.Committed number) ∷ [])))
+
 -- what a step does to the device: one action of the session, or nothing
 abbrev pub ActsOnce : Step → ℕ → Device → Device → Type 0
 ActsOnce Played session before after = (action : Action) × (after ≡ acted session action before)
@@ -131,19 +136,31 @@ pub record GetsEntry {M : Type 0} (said : Call) (given : Reply) (before after : 
   pub was : before.in_flight ≡ Unplaced said
   pub now : after.in_flight ≡ Last
   pub history : after.history ≡ before.history ++ unanswered before.started said given ∷ []
+  pub due : after.due ≡ []
 
--- the call and the history stay
+-- the call, the history and what is due stay
 pub record Stays {M : Type 0} (before after : CoreState M) : Type 0 where
   pub in_flight : after.in_flight ≡ before.in_flight
   pub history : after.history ≡ before.history
+  pub due : after.due ≡ before.due
 
 -- A call gets its entry at its decision; but a commit that is to have a number waits for it.
 pub record GetsEntryAtDecision {M : Type 0} (before after : CoreState M) : Type 0 where
   pub said : Call
   pub given : Reply
   pub entry : GetsEntry said given before after
+  pub none_due : before.due ≡ []
   pub no_number : IsNumbered given → ⊥
   pub full : IsFullWhere (state_after (logical_state before.opened) before.history) given
+
+-- The decision of a commit that is to have a number: its entry is due from now on.
+pub record BecomesDue {M : Type 0} (before after : CoreState M) : Type 0 where
+  pub was : before.in_flight ≡ Unplaced call.Commit
+  pub none_due : before.due ≡ []
+  pub in_flight : after.in_flight ≡ before.in_flight
+  pub history : after.history ≡ before.history
+  pub number : ℕ
+  pub due : after.due ≡ unanswered before.started call.Commit (reply.Committed number) ∷ []
 
 -- The action was the fence that makes the commit word durable with this number, and the last commit number is still the
 -- one before.
@@ -153,9 +170,10 @@ pub record IsAtFence (number : ℕ) (before after : Device) : Type 0 where
   pub commit_word : slice_index after.durable (commit_word_at 0) ≡ number
   pub last : slice_index after.cached last_at + 1 ≡ number
 
--- Such a commit gets its entry at the action that makes its commit word durable.
+-- Such a commit gets the entry that is due at the action that makes its commit word durable.
 pub record GetsNumber {M : Type 0} (d e : Device) (before after : CoreState M) : Type 0 where
   pub number : ℕ
+  pub was_due : before.due ≡ unanswered before.started call.Commit (reply.Committed number) ∷ []
   pub entry : GetsEntry call.Commit (reply.Committed number) before after
   pub at_fence : IsAtFence number d e
 
@@ -168,11 +186,13 @@ pub record GetsReply {M : Type 0} (given : Reply) (before after : CoreState M) :
   pub history : before.history ≡ front ++ last ∷ []
   pub reply : last.reply ≡ given
   pub answered_now : after.history ≡ front ++ answered last ∷ []
+  pub none_due : before.due ≡ []
+  pub due : after.due ≡ []
 
--- what a step that takes the device from one to another does to the call in flight and to the history
+-- what a step that takes the device from one to another does to the call in flight, to the history and to what is due
 abbrev pub Moves : {M : Type 0} → Step → Device → Device → CoreState M → CoreState M → Type 0
 Moves Played d e before after = Stays before after ⊎ GetsNumber d e before after
-Moves Decided d e before after = GetsEntryAtDecision before after ⊎ ((before.in_flight ≡ Unplaced call.Commit) × Stays before after)
+Moves Decided d e before after = GetsEntryAtDecision before after ⊎ BecomesDue before after
 Moves (Blocked holder) d e before after = ⊥
 Moves (Replied given) d e before after = GetsReply given before after
 
@@ -190,10 +210,3 @@ pub record IsEvent {M : Type 0} (step : Step) (d e : Device) (before after : Cor
   pub started : after.started ≡ before.started
   pub events : after.events_left + 1 ≡ before.events_left
   pub played : after.played ≡ before.played + actions_of step
-
--- a device at rest with the words of a formatted stage image
-pub record IsFormatted (d : Device) : Type 0 where
-  pub segments : ℕ
-  pub one_or_more : 1 ≤ segments
-  pub most : segments ≤ 128
-  pub rests : d ≡ at_rest (stage_words segments)

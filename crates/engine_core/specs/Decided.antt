@@ -4,8 +4,7 @@ use Rattle.mv_model.specs.declared.call.Call.{Call}
 use Rattle.mv_model.specs.declared.reply.Reply.{Reply}
 use Rattle.mv_model.specs.declared.call.Call.TheVariants as call
 use Rattle.mv_model.specs.declared.reply.Reply.TheVariants as reply
-use Rattle.std.specs.Option.{option_map_or}
-use Rattle.mv_model.specs.State.{State, transaction_of}
+use Rattle.mv_model.specs.State.{State}
 use Rattle.mv_model.specs.View.{next_row_of}
 use Rattle.mv_model.specs.History.{IsAllowed}
 use Rattle.mv_model.specs.Next.{next}
@@ -13,7 +12,10 @@ use Rattle.pm_model.specs.declared.action.Action.{Action}
 use Rattle.pm_model.specs.PlanState.{PlanState}
 use Rattle.pm_model.specs.Fixed.{last_at, commit_word_at}
 use Rattle.pm_model.specs.Plans.{Part, plan_of, words_after, IsPlan}
+use Rattle.engine_core.specs.Actions.{actions_due, rows_created}
+use Rattle.engine_core.specs.Recoverable.{Fits}
 use Rattle.engine_core.specs.StageRules.{IsStage}
+use Rattle.engine_core.specs.Survival.{IsShownWhile, SurvivesCuts}
 use Rattle.engine_core.specs.LogicalState.{state_of}
 use Rattle.engine_core.specs.StagePlans.{close_parts, commit_late, commit_parts}
 use Rattle.engine_core.specs.declared.decision.Decision.{Decision}
@@ -25,16 +27,17 @@ abbrev pub left_of : Option PlanState → List Action
 left_of None = []
 left_of (Some plan) = plan.left
 
--- how many rows the open transaction of session 1 has created
-abbrev pub rows_created : State → ℕ
-rows_created state = option_map_or (λ own. length own.writes.created) (transaction_of state 1) 0
-
 -- An insert is refused for want of room exactly where all rows of the table, or all entries of the object, are used.
 abbrev pub IsFullWhere : State → Reply → Type 0
 IsFullWhere state (reply.Full need largest) = (need ≡ 1) × (largest ≡ 0) × ((next_row_of state 0 ≡ 4096) ⊎ (rows_created state ≡ 60))
 IsFullWhere state (reply.Row row) = (row < 4096) × (rows_created state < 60)
 IsFullWhere state (reply.DictFull column) = ⊥
 IsFullWhere state other = Unit {0}
+
+-- a row that is given has a number below this one
+abbrev pub IsRowBelow : ℕ → Reply → Type 0
+IsRowBelow count (reply.Row row) = row < count
+IsRowBelow count other = Unit {0}
 
 -- From these words and transactions the call is given this reply: the sequential table allows it; and once these actions
 -- were played, the words and the transactions stand for the state that it leaves.
@@ -46,6 +49,8 @@ pub record IsDecided (words : List ℕ) (before : Transactions) (said : Call) (g
   pub state : next (state_of words before) 1 said given ≡ state_of (words_after actions words) after
   pub stage : IsStage (words_after actions words) after.running
   pub full : IsFullWhere (state_of words before) given
+  pub below : IsRowBelow (next_row_of (state_of (words_after actions words) after) 0) given
+  pub counted : length actions ≡ actions_due (state_of words before) given
   pub short : length actions ≤ 400
   pub begun : after.begun ≤ before.begun + 1
 
@@ -69,11 +74,13 @@ IsPlacedLate words (Some late) said other left = ⊥
 IsPlacedLate words None said (reply.Committed number) left = ⊥
 IsPlacedLate words None said other left = Unit {0}
 
--- what a decision has to meet
+-- What a decision has to meet. Its plan survives each cut: what is left fits together, and shows the state before the call or
+-- the one after it.
 pub record IsDecision (words : List ℕ) (before : Transactions) (said : Call) (decision : Decision) : Type 0 where
   pub copied : decision.copy ≡ decision.reply
   pub decided : IsDecided words before said decision.reply (left_of decision.plan) decision.after
   pub late : IsPlacedLate words decision.late said decision.reply (left_of decision.plan)
+  pub survives : Fits words → SurvivesCuts (IsShownWhile (state_of words before) (state_of (words_after (left_of decision.plan) words) decision.after) decision.late) words (left_of decision.plan)
 
 -- the decision that ends a transaction that wrote nothing
 pub record IsClosed (begun : ℕ) (decision : Decision) : Type 0 where

@@ -1,7 +1,8 @@
 -- What a core keeps.
-use Rattle.std.specs.Prelude.{◌≡◌, ℕ, ◌+◌, ◌*◌, ◌<◌, ◌≤◌, false, IsTrue, List, [], ◌++◌, length, slice_index}
+use Rattle.std.specs.Prelude.{◌≡◌, ◌⊎◌, ℕ, ◌+◌, ◌*◌, ◌<◌, ◌≤◌, false, IsTrue, List, [], ◌++◌, length, slice_index, All}
 use Rattle.mv_model.specs.declared.reply.Entry.{Entry}
-use Rattle.mv_model.specs.History.{IsLegal, state_after}
+use Rattle.mv_model.specs.History.{IsLegal, after, state_after}
+use Rattle.mv_model.specs.View.{next_row_of}
 use Rattle.pm_model.specs.declared.action.Action.{Action}
 use Rattle.pm_model.specs.Device.{Device, IsClean}
 use Rattle.pm_model.specs.Plans.{Play, IsPlaying, plan_of, words_after}
@@ -10,6 +11,10 @@ use Rattle.engine_core.specs.LogicalState.{logical_state, state_of}
 use Rattle.engine_core.specs.StageRules.{IsStage}
 use Rattle.engine_core.specs.StagePlans.{commit_late, commit_parts}
 use Rattle.engine_core.specs.Served.{is_served}
+use Rattle.engine_core.specs.Actions.{actions_in}
+use Rattle.engine_core.specs.Decided.{IsRowBelow}
+use Rattle.engine_core.specs.Recoverable.{Fits, IsRecoveryOf}
+use Rattle.engine_core.specs.Survival.{HoldsAtEachCut}
 use Rattle.engine_core.specs.CoreState.{IsAnswered, IsOfOne, due, pending}
 use Rattle.engine_core.specs.declared.flight.Flight.{Flight}
 use Rattle.engine_core.specs.declared.flight.Flight.TheVariants as flight
@@ -52,6 +57,25 @@ IsBounded (flight.Waiting said) left events_left = (left ≡ []) × (500 ≤ eve
 IsBounded (flight.Committing number late) left events_left = (late < length left) × (length left < events_left)
 IsBounded (flight.Placed given) left events_left = length left < events_left
 
+-- Of a core with this history the image recovers the state that these entries leave.
+abbrev pub Recovers : List ℕ → List Entry → List Entry → List ℕ → Type 0
+Recovers opened history entries image = IsRecoveryOf (logical_state opened) history (after (logical_state opened) entries) (logical_state image)
+
+-- What an image recovers while so many actions are left: the history; but of a commit that waits for its place the image may
+-- recover the commit too where it has the commit word, and from the fence on it does.
+abbrev pub IsRecovered : List ℕ → List Entry → Flight → ℕ → List ℕ → Type 0
+IsRecovered opened history flight.Idle left image = Recovers opened history history image
+IsRecovered opened history (flight.Waiting said) left image = Recovers opened history history image
+IsRecovered opened history (flight.Committing number late) left image =
+    (left ≤ late → Recovers opened history (history ++ due (length history) (flight.Committing number late)) image)
+    × (late < left → Recovers opened history history image
+    ⊎ (Recovers opened history (history ++ due (length history) (flight.Committing number late)) image × (slice_index image (commit_word_at 0) ≡ number)))
+IsRecovered opened history (flight.Placed given) left image = Recovers opened history history image
+
+-- the image fits together, and recovers what it may
+abbrev pub IsSafe : List ℕ → List Entry → Flight → ℕ → List ℕ → Type 0
+IsSafe opened history in_flight left image = Fits image × IsRecovered opened history in_flight left image
+
 -- The history is legal from the state that the opened words stand for. The state that it leaves, once a commit that is
 -- decided has its entry, is that of the words as they become once the plan in play was played.
 pub record IsKept (d : Device) (opened : List ℕ) (history : List Entry) (now : Transactions) (left : List Action) (in_flight : Flight) (events_left played started : ℕ) : Type 0 where
@@ -67,3 +91,9 @@ pub record IsKept (d : Device) (opened : List ℕ) (history : List Entry) (now :
   pub begun : now.begun ≤ length (history ++ due (length history) in_flight)
   pub bounded : IsBounded in_flight left events_left
   pub actions : played + events_left ≤ 65536 * started
+  -- each image that a power cut leaves, now and after each action that is left, fits together and recovers what it may
+  pub safe : HoldsAtEachCut (IsSafe opened history in_flight) left d
+  -- no fewer row numbers were given out than at the opening, and each row that was given has one of them
+  pub least : next_row_of (logical_state opened) 0 ≤ next_row_of (state_of (words_after left d.cached) now) 0
+  pub rows : All (λ entry. IsRowBelow (next_row_of (state_of (words_after left d.cached) now) 0) entry.reply) history
+  pub counted : played + length left ≡ actions_in (logical_state opened) (history ++ due (length history) in_flight)

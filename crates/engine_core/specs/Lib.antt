@@ -6,3 +6,10 @@ pub mod StageRules
 pub mod Decided
 pub mod CoreState
 pub mod Kept
+pub mod ImageRules
+pub mod Opening
+pub mod Recoverable
+pub mod Survival
+pub mod Actions
+pub mod Opened
+pub mod Mended

@@ -3,8 +3,11 @@
 
 mod decision;
 mod flight;
+mod laws;
 mod layout;
+mod opening;
 mod plans;
+mod rules;
 mod stage;
 mod stage_table;
 mod store_core;
@@ -13,6 +16,7 @@ mod tests;
 mod transactions;
 
 pub use flight::Step;
+pub use laws::opening_law;
 pub use pm_model::NoMemory;
 pub use stage::stage_fresh;
-pub use store_core::Core;
+pub use store_core::{Core, OpenError};

@@ -21,16 +21,6 @@ pub(crate) struct CommitPlan {
     pub late: u32,
 }
 
-// Adds a part of one store.
-fn push_store(plan: &mut Plan, place: Place, word: u64)
-    requires { 3 ≤ plan.old.spare }
-    ensures left { plan.new.left ≡ plan.old.left ++ part_actions (one_store place.0 word) }
-    ensures spare { plan.new.spare + 3 ≡ plan.old.spare }
-{
-    plan.push(Action::Store { place, value: word });
-    plan.end_part(1);
-}
-
 /// A plan that makes a row the one that entry `nth` of the transaction creates, with this key word as its value. It has
 /// 6 actions.
 pub(crate) fn plan_insert(alloc: Global, nth: u32, row: u32, word: u64) -> Result<Plan, NoMemory>
@@ -46,7 +36,7 @@ pub(crate) fn plan_insert(alloc: Global, nth: u32, row: u32, word: u64) -> Resul
         row,
     };
     push_entry(&mut plan, 1, nth, entry);
-    push_store(&mut plan, value(row), word);
+    plan.push_store(value(row), word);
     Ok(plan)
 }
 
@@ -77,9 +67,9 @@ pub(crate) fn plan_commit(
 {
     let mut plan = Plan::with_room(alloc, 4 * count + COMMIT_ACTIONS)?;
     push_stamps(&mut plan, first, count, number);
-    push_store(&mut plan, commit_word(0), number);
+    plan.push_store(commit_word(0), number);
     let early = plan.len();
-    push_store(&mut plan, last_commit(), number);
+    plan.push_store(last_commit(), number);
     push_retire(&mut plan, 1, count, true);
     let late = plan.len() - early;
     Ok(CommitPlan { plan, late })

@@ -5,7 +5,8 @@ ghost use Rattle.engine_core.specs.Stage.{stage_words};
 use pm_model::{NoMemory, RESERVED, fresh, version};
 use std::alloc::Global;
 
-const STAGE_VERSION: u64 = 102;
+/// The version of the format of a stage image.
+pub(crate) const STAGE_VERSION: u64 = 102;
 
 /// The words of a formatted stage image of so many segments: one empty table `t a:int`.
 pub fn stage_fresh(alloc: Global, segments: u32) -> Result<Vec<u64>, NoMemory>

@@ -1,10 +1,17 @@
 // A session that steps over the words of a device, one action or one decision at a time.
 ghost use Rattle.mv_model.specs.History.{IsLegal};
-ghost use Rattle.engine_core.specs.LogicalState.{logical_state, one_empty_table};
-ghost use Rattle.std.specs.Prelude.{false, ◌≡◌, ◌≢◌, ◌+◌, ◌-◌, ◌^◌, ◌<◌, [], length, IfOk, IfErr, IsTrue, ◌↔◌};
-ghost use Rattle.engine_core.specs.CoreState.{CoreState, ActsOnce, IsAnsweredButFor, IsEvent, IsFormatted, Last, Nothing, Unplaced};
+ghost use Rattle.engine_core.specs.LogicalState.{logical_state};
+ghost use Rattle.std.specs.Prelude.{false, ◌≡◌, ◌≢◌, ℕ, ◌+◌, ◌-◌, ◌^◌, ◌<◌, List, [], ◌++◌, None, length, IfOk, IfErr, IsTrue, ◌↔◌};
+ghost use Rattle.engine_core.specs.CoreState.{CoreState, ActsOnce, IsAnsweredButFor, IsDueNext, IsEvent, Last, Nothing, Unplaced};
 ghost use Rattle.engine_core.specs.declared.flight.Step.TheVariants.{Decided, Played, Replied};
+ghost use Rattle.pm_model.specs.Device.{IsCrashImage};
+ghost use Rattle.pm_model.specs.Plans.{at_rest, plan_of, run};
+ghost use Rattle.engine_core.specs.Actions.{actions_in};
+ghost use Rattle.engine_core.specs.Opening.{opening_fault, opening_parts, recovered};
+ghost use Rattle.engine_core.specs.Opened.{IsRefusal};
+ghost use Rattle.engine_core.specs.Recoverable.{IsRecoverable, MayRecoverTo, undecided};
 ghost use Rattle.engine_core.specs.Served.{is_served};
+ghost use Rattle.engine_core.specs.declared.store_core.OpenError.TheVariants.{NoMemory as OutOfMemory};
 ghost use Rattle.mv_model.specs.Answer.{columns_of, table_named};
 
 use crate::decision::decide;
@@ -12,18 +19,40 @@ use crate::flight::{
     Flight, Step, actions_left, enter, is_idle, is_placed, mark_answered, next_action,
     place_commit, put_flight, take_call, take_reply,
 };
+use crate::opening::mend_all;
+use crate::rules::{bad_stamp, broken_entry_rule};
 use crate::stage_table::{stage_shape, table_name};
 use crate::transactions::Transactions;
 use mv_model::{Call, Entry, Name, Reply, Shape};
 use pm_model::{Keep, Memory, NoMemory, Plan};
 use std::alloc::Global;
 use std::marker::Model;
+use thiserror::Error;
 
 /// The events that a call may take.
 const MAX_EVENTS: u32 = 65_536;
 
+/// Why a memory was not opened.
+#[derive(Clone, Copy, Debug, PartialEq, Eq, Error)]
+pub enum OpenError {
+    /// The image breaks the rule of this number, at the word of this place.
+    #[error("rule {rule} is broken at {place}")]
+    BadImage { rule: u8, place: u32 },
+    #[error("out of memory")]
+    NoMemory,
+}
+
+impl From<NoMemory> for OpenError {
+    ghost from_gives = { λ _ error. error ≡ OutOfMemory };
+
+    fn from(_refused: NoMemory) -> OpenError {
+        OpenError::NoMemory
+    }
+}
+
 /// A device and the session that steps on it. The history since it was opened is legal from the state that the opened
-/// words stand for.
+/// words stand for, and whatever image a power cut leaves of the device, now or after any action of the plan in play,
+/// fits together and recovers what it may.
 #[derive(Drop)]
 pub struct Core<M: Memory> {
     memory: M,
@@ -40,14 +69,14 @@ pub struct Core<M: Memory> {
 
 impl<M: Memory> Model for Core<M> {
     ghost use Rattle.std.specs.Prelude.{◌≡◌, ◌+◌, ◌≤◌, length, vec_len, vec_capacity};
-    ghost use Rattle.engine_core.specs.CoreState.{CoreState, in_flight_of, pending};
+    ghost use Rattle.engine_core.specs.CoreState.{CoreState, due, in_flight_of, pending};
     ghost use Rattle.engine_core.specs.Decided.{left_of};
     ghost use Rattle.engine_core.specs.Kept.{IsKept};
     ghost use Rattle.engine_core.specs.LogicalState.{columns};
 
     ghost Value = { CoreState M };
 
-    ghost view = { λ c. record { memory = c.memory; opened = c.opened.items; history = c.history.items; in_flight = in_flight_of c.flight; to_play = length (left_of c.plan); events_left = c.events_left; played = c.played; started = c.started } };
+    ghost view = { λ c. record { memory = c.memory; opened = c.opened.items; history = c.history.items; due = due (length c.history.items) c.flight; in_flight = in_flight_of c.flight; to_play = length (left_of c.plan); events_left = c.events_left; played = c.played; started = c.started } };
 
     ghost invariant = { λ c. IsKept (M.device c.memory) c.opened.items c.history.items c.transactions (left_of c.plan) c.flight c.events_left c.played c.started
         × (pending c.flight + vec_len c.history ≤ vec_capacity c.history)
@@ -55,17 +84,33 @@ impl<M: Memory> Model for Core<M> {
 }
 
 impl<M: Memory + Drop> Core<M> {
-    /// A core over a device at rest with the words of a formatted stage image.
-    pub fn from_memory(alloc: Global, memory: M) -> Result<Core<M>, NoMemory>
-        requires { IsFormatted (M.device memory) }
-        ensures memory { IfOk result (λ core. core.memory ≡ memory) }
-        ensures opened { IfOk result (λ core. core.opened ≡ (M.device memory).cached) }
-        ensures state { IfOk result (λ core. logical_state core.opened ≡ one_empty_table) }
+    /// A core over a device at rest with the words of an image, such as a power cut leaves. Opening mends it. An image is
+    /// refused by the first rule of each image that it breaks, or that it breaks once it was opened.
+    pub fn from_memory(alloc: Global, memory: M) -> Result<Core<M>, OpenError>
+        requires rests { M.device memory ≡ at_rest (M.device memory).cached }
+        ensures opened { IfOk result (λ core. core.opened ≡ recovered (M.device memory).cached) }
+        ensures device { IfOk result (λ core. M.device core.memory ≡ run 0 (plan_of (opening_parts (M.device memory).cached)) (M.device memory)) }
+        ensures rests { IfOk result (λ core. M.device core.memory ≡ at_rest core.opened) }
+        ensures accepted { IfOk result (λ core. opening_fault (M.device memory).cached ≡ None) }
+        ensures refused { IfErr result (λ error. IsRefusal error (opening_fault (M.device memory).cached)) }
+        ensures recoverable { IsRecoverable (M.device memory).cached → IfErr result (λ error. error ≡ OutOfMemory) }
         ensures history { IfOk result (λ core. core.history ≡ []) }
+        ensures due { IfOk result (λ core. core.due ≡ []) }
         ensures in_flight { IfOk result (λ core. core.in_flight ≡ Nothing) }
         ensures played { IfOk result (λ core. core.played ≡ 0) }
         ensures started { IfOk result (λ core. core.started ≡ 0) }
     {
+        let mut memory = memory;
+        if let Some(broken) = broken_entry_rule(&memory) {
+            return Err(OpenError::BadImage {
+                rule: broken.rule,
+                place: broken.place,
+            });
+        }
+        mend_all(alloc, &mut memory)?;
+        if let Some(place) = bad_stamp(&memory) {
+            return Err(OpenError::BadImage { rule: 27, place });
+        }
         let opened = memory.choose(Keep::All)?;
         Ok(Core {
             memory,
@@ -118,10 +163,11 @@ impl<M: Memory> Core<M> {
         }
     }
 
-    /// Whether a session has a call in flight.
+    /// Whether a session has a call in flight. Without one nothing is left to play.
     pub fn in_flight(&self, session: u8) -> bool
         requires { session ≡ 1 }
-        ensures { (result ≡ false) ↔ (self.now.in_flight ≡ Nothing) }
+        ensures some { (result ≡ false) ↔ (self.now.in_flight ≡ Nothing) }
+        ensures idle { self.now.in_flight ≡ Nothing → (self.now.to_play ≡ 0) × (self.now.due ≡ []) }
     {
         !is_idle(&self.flight)
     }
@@ -132,12 +178,20 @@ impl<M: Memory> Core<M> {
         ensures entries { result.now ≡ self.now.history }
         ensures legal { IsLegal (logical_state self.now.opened) self.now.history }
         ensures answered { IsAnsweredButFor self.now.in_flight self.now.history }
+        ensures due { IsDueNext self.now.in_flight self.now.history self.now.due }
+        ensures legal_due { IsLegal (logical_state self.now.opened) (self.now.history ++ self.now.due) }
     {
         self.history.as_slice()
     }
 
+    /// The device. Whatever image a power cut leaves of it now is recoverable, and stands for a state that may be recovered:
+    /// the one that the history leaves, or also the commit that is due, while its commit word is stored and not durable.
+    /// With no call in flight each word is durable.
     pub fn memory(&self) -> &M
-        ensures { result.now ≡ self.now.memory }
+        ensures memory { result.now ≡ self.now.memory }
+        ensures recoverable { (image : List ℕ) → IsCrashImage (M.device self.now.memory) image → IsRecoverable image }
+        ensures may_recover_to { (image : List ℕ) → IsCrashImage (M.device self.now.memory) image → MayRecoverTo (logical_state self.now.opened) self.now.history (undecided (M.device self.now.memory) self.now.due) (logical_state image) }
+        ensures rests { self.now.in_flight ≡ Nothing → (M.device self.now.memory).durable ≡ (M.device self.now.memory).cached }
     {
         &self.memory
     }
@@ -149,9 +203,11 @@ impl<M: Memory> Core<M> {
         self.opened.as_slice()
     }
 
-    /// How many actions were played since the core was opened.
+    /// How many actions were played since the core was opened: with those that are left, the plans of the history and of
+    /// the commit that is due.
     pub fn played(&self) -> u64
-        ensures { result ≡ self.now.played }
+        ensures played { result ≡ self.now.played }
+        ensures counted { self.now.played + self.now.to_play ≡ actions_in (logical_state self.now.opened) (self.now.history ++ self.now.due) }
     {
         self.played
     }

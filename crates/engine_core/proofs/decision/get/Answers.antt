@@ -1,7 +1,6 @@
-use Rattle.std.proofs.Common.{◌≡◌, ◌∙◌, ℕ, ℤ, true, false, [], ◌∷◌, get_or, Some, refl, ap, sym, subst, rules}
+use Rattle.std.proofs.Common.{◌≡◌, ◌∙◌, ℕ, ℤ, true, false, [], ◌∷◌, get_or, Some, ap, sym, subst, rules}
 use Rattle.mv_model.specs.declared.value.Value.{Value}
 use Rattle.mv_model.specs.declared.value.Value.TheVariants.{Int}
-use Rattle.mv_model.specs.declared.reply.Reply.{Reply}
 use Rattle.mv_model.specs.declared.reply.Reply.TheVariants as reply
 use Rattle.std.proofs.Common.{List}
 use mir.Syntax.{w64}

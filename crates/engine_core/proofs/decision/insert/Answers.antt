@@ -1,4 +1,4 @@
-use Rattle.std.proofs.Common.{◌≡◌, ◌⊎◌, inl, inr, ⊎_elim, ◌∙◌, ℕ, ◌+◌, ◌≤◌, get_or, length, refl, ap, arith, rules}
+use Rattle.std.proofs.Common.{◌≡◌, inl, inr, ◌∙◌, ℕ, ◌+◌, ◌<◌, get_or, ap, arith, rules}
 use mir.Syntax.{w64}
 use mir.Val.{SFits}
 use Rattle.std.proofs.lemmas.Int.{to_z-of_z}
@@ -7,6 +7,7 @@ use Rattle.engine_core.specs.Served.{insert_of}
 use Rattle.engine_core.specs.Stage.{high_at}
 use Rattle.engine_core.proofs.Answered.{stands}
 use Rattle.engine_core.proofs.Decisions.{insert-decided, insert-full}
+use Rattle.engine_core.proofs.Survivals.{insert-survives}
 use Rattle.engine_core.proofs.decision.insert.Goals as goal
 use Rattle.engine_core.proofs.decision.insert.Goals.{then-own-from-via-then-own-from, then-own-from-via-else-own-from+then-row-ge-STAGE_ROWS}
 
@@ -22,10 +23,15 @@ returns g c =
     let words = (g.M.Memory.device c.args.memory.now).cached in
     let is_high : c.load.result ≡ get_or words high_at 0 = c.load.ensures ∙ ap (λ (k : ℕ). get_or words k 0) c.high.ensures in
     let fits : SFits w64 c.args.number = search rules in
+    let is_row : c.load.result + c.args.own.rows ≡ get_or words high_at 0 + c.args.own.rows = ap (λ (n : ℕ). n + c.args.own.rows) is_high in
+    let few : c.args.own.rows < 60 = omega (arith, c.from.ensures, c.if-own-from.false) in
+    let fewer : c.load.result + c.args.own.rows < 4096 = omega (arith, c.if-row-ge-STAGE_ROWS.false) in
+    let decided = insert-decided words c.args.begun c.args.own.number c.args.own.rows c.requires (c.load.result + c.args.own.rows) c.key_word.result is_row few fewer c.args.number c.in_ok-plan_insert.field-0.left
+    (simp to_z-of_z at c.key_word.ensures) c.in_ok-plan_insert.ensures.left (omega (arith, c.in_ok-plan_insert.ensures.actions)) in
     record {
       copied = c.in_ok-copy.ensures;
-      decided = insert-decided words c.args.begun c.args.own.number c.args.own.rows c.requires _ c.key_word.result (ap (λ (n : ℕ). n + c.args.own.rows) is_high)
-          (omega (arith, c.from.ensures, c.if-own-from.false)) (omega (arith, c.if-row-ge-STAGE_ROWS.false)) c.args.number c.in_ok-plan_insert.field-0.left (simp to_z-of_z at c.key_word.ensures) c.in_ok-plan_insert.ensures.left
-          (omega (arith, c.in_ok-plan_insert.ensures.actions));
+      decided = decided;
       late = tt;
+      survives = insert-survives words c.args.begun c.args.own (c.load.result + c.args.own.rows) c.key_word.result c.args.number c.in_ok-plan_insert.field-0.left _ c.requires is_row few fewer
+          c.in_ok-plan_insert.ensures.left decided;
     }

@@ -1,4 +1,4 @@
-use Rattle.std.proofs.Common.{◌≡◌, ◌∙◌, ◌-◌, ◌+◌, ◌++◌, ◌∷◌, [], ℕ, List, length, get_or, set, ap, sym, arith}
+use Rattle.std.proofs.Common.{◌≡◌, ◌∙◌, ◌-◌, ◌++◌, ◌∷◌, [], ℕ, length, get_or, set, ap, arith}
 use Rattle.std.specs.Prelude.{vec_len}
 use Rattle.mv_model.specs.declared.reply.Entry.{Entry}
 use Rattle.engine_core.specs.CoreState.{answered}

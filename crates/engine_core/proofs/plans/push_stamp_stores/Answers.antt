@@ -1,4 +1,4 @@
-use Rattle.std.proofs.Common.{◌≡◌, ◌∙◌, ℕ, ◌+◌, ◌++◌, ap, arith}
+use Rattle.std.proofs.Common.{arith}
 use Rattle.engine_core.proofs.StampPlans.{stamped-next, stamped-all}
 use Rattle.engine_core.proofs.plans.push_stamp_stores.Goals as goal
 

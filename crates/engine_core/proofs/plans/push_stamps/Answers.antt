@@ -1,8 +1,7 @@
-use Rattle.std.proofs.Common.{◌≡◌, ◌∙◌, ◌+◌, ◌<◌, ◌++◌, List, length, ap, sym, arith}
+use Rattle.std.proofs.Common.{◌≡◌, ◌∙◌, ◌+◌, ◌++◌, List, length, ap, arith}
 use Rattle.std.proofs.lemmas.List.{length-append}
 use Rattle.pm_model.specs.declared.action.Action.{Action}
-use Rattle.pm_model.specs.Plans.{lines_of, part_end}
-use Rattle.engine_core.specs.StagePlans.{stamp_part}
+use Rattle.pm_model.specs.Plans.{part_end}
 use Rattle.engine_core.proofs.Stores.{length-lines_of}
 use Rattle.engine_core.proofs.StampPlans.{drop-all_of, length-stamp_actions, length-stamp_part}
 use Rattle.engine_core.proofs.plans.push_stamps.Goals as goal

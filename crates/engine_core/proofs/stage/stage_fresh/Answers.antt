@@ -1,4 +1,4 @@
-use Rattle.std.proofs.Common.{◌≡◌, ℕ, ◌*◌, length, ◌∙◌, sym, ap, arith}
+use Rattle.std.proofs.Common.{◌≡◌, ◌*◌, length, arith}
 use Rattle.std.proofs.lemmas.List.{with_items_is}
 use Rattle.engine_core.proofs.StageImage.{stage_words_is}
 use Rattle.engine_core.proofs.stage.stage_fresh.Goals as goal

@@ -1,4 +1,5 @@
 use Rattle.engine_core.proofs.CoreSteps.{answers-seen}
+use Rattle.engine_core.proofs.Recoveries.{due-next}
 use Rattle.engine_core.proofs.store_core.Core.history.Goals as goal
 
 pub returns-clause-legal : goal.returns-clause-legal
@@ -6,3 +7,9 @@ returns-clause-legal g c = rw (← c.self.view_is) c.self.invariant.0.legal
 
 pub returns-clause-answered : goal.returns-clause-answered
 returns-clause-answered g c = rw (← c.self.view_is) (answers-seen c.self.inside.flight c.self.inside.history.items c.self.invariant.0.answers)
+
+pub returns-clause-due : goal.returns-clause-due
+returns-clause-due g c = rw (← c.self.view_is) (due-next c.self.inside.flight c.self.inside.history.items)
+
+pub returns-clause-legal_due : goal.returns-clause-legal_due
+returns-clause-legal_due g c = rw (← c.self.view_is) c.self.invariant.0.legal_due

@@ -50,3 +50,14 @@ returns-clause-event g c =
       events = omega (arith, event);
       played = refl;
     })
+
+pub overflow_sub-self : goal.overflow_sub-self
+overflow_sub-self g c =
+    let inside = c.self.inside in
+    let left = left_of inside.plan in
+    let some : 0 < length left = rw (← c.self.view_is) at c.requires.to_play in
+    one-event inside.flight left inside.events_left (busy inside.flight left inside.events_left some c.self.invariant.0.bounded) c.self.invariant.0.bounded
+
+pub returns-clause-device : goal.returns-clause-device
+returns-clause-device g c =
+    rw (← c.self.view_is) (c.in-Some.action, c.act.ensures ∙ ap (λ (s : ℕ). acted s c.in-Some.action (g.M.Memory.device c.self.inside.memory)) c.requires.session)

@@ -1,4 +1,4 @@
-use Rattle.std.proofs.Common.{◌≡◌, ◌≢◌, ◌∙◌, ◌+◌, ◌-◌, ◌<◌, ◌≤◌, ℕ, List, [], length, ap, sym, subst, refl, arith}
+use Rattle.std.proofs.Common.{◌≡◌, ◌-◌, List, length, subst, arith}
 use Rattle.pm_model.specs.declared.action.Action.{Action}
 use Rattle.engine_core.specs.Decided.{left_of}
 use Rattle.engine_core.specs.Kept.{IsKept}

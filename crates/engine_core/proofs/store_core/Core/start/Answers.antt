@@ -1,9 +1,8 @@
-use Rattle.std.proofs.Common.{◌≡◌, ◌∙◌, ap, subst, arith}
+use Rattle.std.proofs.Common.{◌≡◌, subst, arith}
 use Rattle.engine_core.specs.CoreState.{Nothing, in_flight_of}
 use Rattle.engine_core.specs.Decided.{left_of}
 use Rattle.engine_core.specs.Kept.{IsKept}
 use Rattle.engine_core.specs.declared.flight.Flight.{Flight}
-use Rattle.engine_core.specs.declared.flight.Flight.TheVariants as flight
 use Rattle.engine_core.proofs.CoreSteps.{is_idle}
 use Rattle.engine_core.proofs.Steps.{starts}
 use Rattle.engine_core.proofs.store_core.Core.start.Goals as goal
