@@ -9,5 +9,6 @@ mod script;
 mod tests;
 
 pub use error::ScriptError;
+pub use number::read_number;
 pub use print::print_history;
 pub use script::{Line, Script, read_script};

@@ -1,7 +1,7 @@
-ghost use Rattle.std.specs.Prelude.{◌≡◌, ◌++◌, codes, decimal, take, IfOk, OnOk, All};
+ghost use Rattle.std.specs.Prelude.{◌≡◌, ◌++◌, ◌∷◌, [], codes, decimal, take, IfOk, OnOk};
 ghost use Rattle.std.specs.Fmt.{signed_decimal};
 ghost use Rattle.std.specs.List.{flat_map};
-ghost use Rattle.script_text.specs.Printed.{HasIntegers, IsInteger, answered_text, entry_line, history_text, holding_text, reply_text, row_words, spelling, value_word, value_words};
+ghost use Rattle.script_text.specs.Printed.{answered_text, entry_line, escaped, history_text, holding_text, reply_text, row_words, spelling, value_word, value_words};
 
 use itoa::Buffer;
 use mv_model::{Entry, Holding, NoMemory, Reply, TableRow, Value};
@@ -27,18 +27,49 @@ fn push_text(to: &mut Vec<u8>, text: &str) -> Result<(), NoMemory>
     to.extend_from_slice(text.as_bytes())
 }
 
+fn push_escaped(to: &mut Vec<u8>, byte: u8) -> Result<(), NoMemory>
+    ensures { OnOk result (to.new.items ≡ to.old.items ++ escaped byte) }
+{
+    match byte {
+        b'"' => push_text(to, "\\\""),
+        b'\\' => push_text(to, "\\\\"),
+        b'\n' => push_text(to, "\\n"),
+        b'\r' => push_text(to, "\\r"),
+        _ => {
+            to.push(byte)?;
+            Ok(())
+        }
+    }
+}
+
+fn push_all_escaped(to: &mut Vec<u8>, text: &[u8]) -> Result<(), NoMemory>
+    ensures { OnOk result (to.new.items ≡ to.old.items ++ flat_map escaped text.now) }
+{
+    for byte in text {
+        push_escaped(to, *byte)?;
+    }
+    Ok(())
+}
+
+fn push_quoted(to: &mut Vec<u8>, text: &[u8]) -> Result<(), NoMemory>
+    ensures { OnOk result (to.new.items ≡ to.old.items ++ 34 ∷ flat_map escaped text.now ++ 34 ∷ []) }
+{
+    to.push(b'"')?;
+    push_all_escaped(to, text)?;
+    to.push(b'"')?;
+    Ok(())
+}
+
 fn push_value(to: &mut Vec<u8>, value: &Value) -> Result<(), NoMemory>
-    requires { IsInteger value.now }
     ensures { OnOk result (to.new.items ≡ to.old.items ++ spelling value.now) }
 {
     match value {
         Value::Int(number) => push_signed(to, i128::from(*number)),
-        Value::Text(_) => Ok(()),
+        Value::Text(text) => push_quoted(to, text.as_str().as_bytes()),
     }
 }
 
 fn push_value_word(to: &mut Vec<u8>, value: &Value) -> Result<(), NoMemory>
-    requires { IsInteger value.now }
     ensures { OnOk result (to.new.items ≡ to.old.items ++ value_word value.now) }
 {
     push_text(to, " ")?;
@@ -46,7 +77,6 @@ fn push_value_word(to: &mut Vec<u8>, value: &Value) -> Result<(), NoMemory>
 }
 
 fn push_values(to: &mut Vec<u8>, values: &[Value]) -> Result<(), NoMemory>
-    requires { All IsInteger values.now }
     ensures { OnOk result (to.new.items ≡ to.old.items ++ value_words values.now) }
 {
     for value in values {
@@ -56,7 +86,6 @@ fn push_values(to: &mut Vec<u8>, values: &[Value]) -> Result<(), NoMemory>
 }
 
 fn push_row(to: &mut Vec<u8>, row: &TableRow) -> Result<(), NoMemory>
-    requires { All IsInteger row.now.values }
     ensures { OnOk result (to.new.items ≡ to.old.items ++ row_words row.now) }
 {
     push_text(to, " | ")?;
@@ -65,7 +94,6 @@ fn push_row(to: &mut Vec<u8>, row: &TableRow) -> Result<(), NoMemory>
 }
 
 fn push_rows(to: &mut Vec<u8>, rows: &[TableRow]) -> Result<(), NoMemory>
-    requires { All (λ row. All IsInteger row.values) rows.now }
     ensures { OnOk result (to.new.items ≡ to.old.items ++ flat_map row_words rows.now) }
 {
     for row in rows {
@@ -116,7 +144,6 @@ fn push_two(
 }
 
 fn push_reply(to: &mut Vec<u8>, reply: &Reply) -> Result<(), NoMemory>
-    requires { HasIntegers reply.now }
     ensures { OnOk result (to.new.items ≡ to.old.items ++ reply_text reply.now) }
 {
     match reply {
@@ -179,7 +206,6 @@ fn push_answered(to: &mut Vec<u8>, answered: bool) -> Result<(), NoMemory>
 }
 
 fn push_entry(to: &mut Vec<u8>, entry: &Entry) -> Result<(), NoMemory>
-    requires { HasIntegers entry.now.reply }
     ensures { OnOk result (to.new.items ≡ to.old.items ++ entry_line entry.now) }
 {
     push_numbered(to, "s", u64::from(entry.session))?;
@@ -193,7 +219,6 @@ fn push_entry(to: &mut Vec<u8>, entry: &Entry) -> Result<(), NoMemory>
 
 /// Prints a history, a line for each entry.
 pub fn print_history(alloc: Global, history: &[Entry]) -> Result<Vec<u8>, NoMemory>
-    requires { All (λ entry. HasIntegers entry.reply) history.now }
     ensures { IfOk result (λ text. text.items ≡ history_text history.now) }
 {
     let mut text = Vec::new(alloc);

@@ -1,8 +1,7 @@
 //! Worked lines, and what no clause says: that the calls succeed while memory is there.
-ghost use Rattle.script_text.specs.Printed.{HasIntegers};
 
 use crate::{Line, ScriptError, print_history, read_script};
-use mv_model::{Call, Entry, Holding, Reply, Value};
+use mv_model::{Call, Entry, Holding, Reply, Text, Value, Values};
 use std::alloc::{AllocError, Global};
 use std::test::Fail;
 
@@ -51,9 +50,7 @@ fn names_the_first_bad_line(rt: HostRuntime) {
     }
 }
 
-fn printed(alloc: Global, reply: Reply, answered: bool) -> Result<Vec<u8>, AllocError>
-    requires { HasIntegers reply }
-{
+fn printed(alloc: Global, reply: Reply, answered: bool) -> Result<Vec<u8>, AllocError> {
     let entry = Entry {
         session: 2,
         ordinal: 3,
@@ -81,5 +78,15 @@ fn prints_replies(rt: HostRuntime) -> Result<(), Fail> {
     assert!(rt; text.as_slice() == b"s2 3 sum 18446744073709551614\n".as_slice());
     let text = printed(alloc, Reply::Committed { number: 2 }, false)?;
     assert!(rt; text.as_slice() == b"s2 3 committed 2 unanswered\n".as_slice());
+    Ok(())
+}
+
+#[test]
+fn prints_a_text_in_quotes(rt: HostRuntime) -> Result<(), Fail> {
+    let alloc = rt.alloc();
+    let mut values = Values::with_room(alloc, 1)?;
+    values.push(Value::Text(Text::of(alloc, "say \"hi\"".as_bytes())?));
+    let text = printed(alloc, Reply::Values(Values::from(values)), true)?;
+    assert!(rt; text.as_slice() == b"s2 3 values \"say \\\"hi\\\"\"\n".as_slice());
     Ok(())
 }
