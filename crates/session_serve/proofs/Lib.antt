@@ -1,4 +1,7 @@
-pub mod Histories
+pub mod Commands
+pub mod Events
+pub mod Lines
+pub mod Endings
 pub mod Writes
-pub mod Engines
-pub mod Calls
+pub mod Served
+pub mod Due

@@ -1,59 +1,68 @@
--- What the parts of a call have done, by the status that they give.
-use Rattle.std.specs.Prelude.{ℕ, ◌≡◌, true, List, Option, Ok, Err}
-use Rattle.std.specs.Io.KnownBytes.{Appends}
-use Rattle.mv_model.specs.declared.reply.Entry.{Entry}
+-- What the parts of a call give.
+use Rattle.std.specs.Prelude.{ℕ, ◌≡◌, ◌⊎◌, ◌+◌, ◌≤◌, List, Option, Some, Result, Err}
+use Rattle.io_edge.specs.Transfer.{Loses}
+use Rattle.io_edge.specs.declared.reading.TheConstants.{LIMIT}
+use Rattle.engine_core.specs.Opening.{opening_fault}
 use Rattle.script_text.specs.declared.script.Line.{Line}
-use Rattle.script_text.specs.declared.script.Line.TheVariants as line
-use Rattle.script_text.specs.declared.error.ScriptError.TheVariants as script_error
-use Rattle.script_text.specs.Printed.{history_text}
-use Rattle.script_text.specs.Script.{script_of}
+use Rattle.pm_model.specs.declared.action.Keep.{Keep}
+use Rattle.pm_model.specs.declared.action.Keep.TheVariants.{All}
+use Rattle.session_serve.specs.declared.playing.Ending.{Ending}
+use Rattle.session_serve.specs.declared.playing.Ending.TheVariants as ending
 use Rattle.session_serve.specs.declared.status.Status.{Status}
 use Rattle.session_serve.specs.declared.status.Status.TheVariants as status
-use Rattle.session_serve.specs.Runs.{AppendsFront, IsHistoryOf, ReadsToEnd, Told, Writing, one_empty_table}
+use Rattle.session_serve.specs.Runs.{Finishes, IsCutOff, IsTooLong, Leaving, ReadsNoImage, ReadsScript, Streams, Told, WritesAll, WritesFront, WrittenRun}
+use Rattle.script_text.specs.declared.error.ScriptError.TheVariants as script_error
 
--- the entry is of session 1 and says what the line does, with a reply that was returned
-abbrev pub IsEntryOf : Line → Entry → Type 0
-IsEntryOf (line.Say speaker ordinal said) entry =
-    (entry.session ≡ 1) × (entry.call ≡ said) × (entry.answered ≡ true)
+-- what a run leaves, by how it ended
+abbrev pub LeavesBy : Ending → Option ℕ → Keep → Leaving
+LeavesBy ending.Finished cut keep = Finishes cut
+LeavesBy ending.Cut cut keep = IsCutOff cut keep
 
--- the printed history of a run of the script was written
-pub record PrintedRun (Writes : Writing) (script : List Line) (before after : Told) : Type 0 where
-  pub history : List Entry
-  pub ran : IsHistoryOf one_empty_table script history
-  pub printed : Writes before after (history_text history)
+-- which words are kept: all where nothing was cut
+abbrev pub kept_by : Ending → Keep → Keep
+kept_by ending.Finished keep = All
+kept_by ending.Cut keep = keep
 
--- what the run of a script has done
-abbrev pub PlayedScript : Status → List Line → Told → Told → Type 0
-PlayedScript status.Done script before after = PrintedRun Appends script before after
-PlayedScript status.WriteFault script before after = PrintedRun AppendsFront script before after
-PlayedScript status.NoMemory script before after = Unit {0}
-PlayedScript other script before after = ⊥
+-- why the bytes of a source aren't read
+abbrev pub IsUnread : Status → Told → Told → Type 0
+IsUnread status.ReadFault before after = Unit {0}
+IsUnread status.NoMemory before after = Unit {0}
+IsUnread status.InputTooLong before after = IsTooLong before after
+IsUnread other before after = ⊥
 
--- the script that the bytes spell
-pub record PrintedBytes (Writes : Writing) (bytes : List ℕ) (before after : Told) : Type 0 where
-  pub script : List Line
-  pub spelled : script_of bytes ≡ Ok script
-  pub run : PrintedRun Writes script before after
+-- why an image isn't read
+abbrev pub IsNoImage : Status → Told → Told → Type 0
+IsNoImage (status.BadBytes error) before after = ReadsNoImage before after error
+IsNoImage other before after = IsUnread other before after
 
--- what the run of a script's bytes has done
-abbrev pub RanBytes : Status → List ℕ → Told → Told → Type 0
-RanBytes status.Done bytes before after = PrintedBytes Appends bytes before after
-RanBytes status.WriteFault bytes before after = PrintedBytes AppendsFront bytes before after
-RanBytes (status.BadScript number rule) bytes before after =
-    script_of bytes ≡ Err (script_error.BadLine number rule)
-RanBytes status.NoMemory bytes before after = Unit {0}
-RanBytes other bytes before after = ⊥
+-- why a script isn't read
+abbrev pub IsNoScript : Status → Told → Told → Type 0
+IsNoScript (status.BadScript number rule) before after = ReadsScript before after (Err (script_error.BadLine number rule))
+IsNoScript other before after = IsUnread other before after
 
--- the source was read to its end, and what it gave was run
-abbrev pub ReadAndRan : Status → Told → Told → Told → Told → Type 0
-ReadAndRan given input_before input_after before after =
-    (bytes : List ℕ) × ReadsToEnd input_before input_after bytes × RanBytes given bytes before after
+-- at most one byte past the limit was taken, and that one only where the result is that the input is too long
+abbrev pub Takes : {A : Type 0} → Result A Status → Told → Told → Type 0
+Takes result before after =
+    Loses before after (λ count. (count ≤ LIMIT + 1) × (count ≡ LIMIT + 1 → result ≡ Err status.InputTooLong))
 
--- what the run of an input has done
-abbrev pub RanInput : Status → Told → Told → Told → Told → Type 0
-RanInput status.Usage input_before input_after before after = ⊥
-RanInput status.ReadFault input_before input_after before after = Unit {0}
-RanInput status.InputTooLong input_before input_after before after = Unit {0}
-RanInput status.NoMemory input_before input_after before after = Unit {0}
-RanInput given input_before input_after before after =
-    ReadAndRan given input_before input_after before after
+-- the status of a run that ended so and was written
+abbrev pub status_of : Ending → Status
+status_of ending.Finished = status.Done
+status_of ending.Cut = status.PowerCut
+
+-- An image and a text were written as the status says: all of both, or a part where a sink failed.
+abbrev pub IsWritten : Ending → Status → Streams → Streams → List ℕ → List ℕ → Type 0
+IsWritten end status.Done before after image text = (end ≡ ending.Finished) × WritesAll before after image text
+IsWritten end status.PowerCut before after image text = (end ≡ ending.Cut) × WritesAll before after image text
+IsWritten end status.WriteFault before after image text = WritesFront before after image text
+IsWritten end other before after image text = ⊥
+
+-- what a script over the image of these words has done, where it ends with this status
+abbrev pub RanWords : Status → Option ℕ → Keep → List ℕ → List Line → Streams → Streams → Type 0
+RanWords status.Done cut keep words script before after = WrittenRun (Finishes cut) WritesAll words script before after
+RanWords status.PowerCut cut keep words script before after = WrittenRun (IsCutOff cut keep) WritesAll words script before after
+RanWords status.WriteFault cut keep words script before after =
+    WrittenRun (Finishes cut) WritesFront words script before after ⊎ WrittenRun (IsCutOff cut keep) WritesFront words script before after
+RanWords (status.BadImage rule place) cut keep words script before after = opening_fault words ≡ Some (record { rule = rule; place = place })
+RanWords status.NoMemory cut keep words script before after = Unit {0}
+RanWords other cut keep words script before after = ⊥

@@ -1,25 +1,28 @@
--- What a call of `run` has done, by its status, and which status it ends with.
-use Rattle.std.specs.Prelude.{ℕ, ◌≡◌, ◌+◌, ◌≤◌, ◌↔◌, ◌++◌, nat_lt, true, List, [], ◌∷◌, All, codes, length, map, Option, None, Some, Result, Ok, Err, if◌then◌else◌}
+-- What a call of `run` has done, by its status, and which statuses it may end with.
+use Rattle.std.specs.Prelude.{ℕ, ◌≡◌, ◌⊎◌, ◌+◌, ◌≤◌, ◌++◌, nat_lt, List, [], ◌∷◌, length, Option, None, Some, Result, Ok, Err, Bool, true, false}
 use Rattle.std.specs.Io.KnownBytes.{Appends, Consumes, IsAtEnd}
 use Rattle.io_edge.specs.Transfer.{Loses}
 use Rattle.io_edge.specs.declared.reading.TheConstants.{LIMIT}
-use Rattle.mv_model.specs.declared.shape.Kind.TheVariants as kind
-use Rattle.mv_model.specs.declared.reply.Entry.{Entry}
-use Rattle.mv_model.specs.declared.reply.Reply.{Reply}
-use Rattle.mv_model.specs.declared.reply.Reply.TheVariants as reply
-use Rattle.mv_model.specs.State.{State, Table, empty}
-use Rattle.mv_model.specs.History.{IsLegal, entries_of}
+use Rattle.pm_model.specs.declared.action.Keep.{Keep}
+use Rattle.pm_model.specs.Checks.{Fault}
+use Rattle.pm_model.specs.Device.{IsCrashImage, image_of}
+use Rattle.pm_image.specs.declared.error.ImageError.{ImageError}
+use Rattle.pm_image.specs.Fault.{first_fault}
+use Rattle.pm_image.specs.Spelling.{IsImage, spelling}
+use Rattle.engine_core.specs.Opening.{opening_fault}
+use Rattle.engine_core.specs.Stage.{stage_words}
 use Rattle.script_text.specs.declared.script.Line.{Line}
 use Rattle.script_text.specs.declared.error.ScriptError.{ScriptError}
 use Rattle.script_text.specs.declared.error.ScriptError.TheVariants as script_error
 use Rattle.script_text.specs.Printed.{history_text}
-use Rattle.script_text.specs.Script.{script_of, statements_of}
-use Rattle.session_serve.specs.declared.words.Command.{Command}
-use Rattle.session_serve.specs.declared.words.Command.TheVariants.{Run}
+use Rattle.script_text.specs.Script.{script_of}
+use Rattle.session_serve.specs.Moments.{IsFinished, IsFirstAt, IsRun, IsUncut, Moment}
 use Rattle.session_serve.specs.declared.words.Job.{Job}
 use Rattle.session_serve.specs.declared.words.Job.TheVariants as job
 use Rattle.session_serve.specs.declared.status.Status.{Status}
 use Rattle.session_serve.specs.declared.status.Status.TheVariants as status
+
+-- ── streams ──
 
 -- what a stream tells, if it does: a source what is left to read, and a sink what it holds
 abbrev pub Told : Type 0
@@ -36,121 +39,232 @@ abbrev pub streams : Told → Told → Told → Told → Streams
 streams image input image_out out =
     record { image = image; input = input; image_out = image_out; out = out }
 
--- the table `t a:int` that has given out so many row numbers
-abbrev pub table_of : ℕ → Table
-table_of rows =
-    record {
-      name = codes "t";
-      columns = record { name = codes "a"; kind = kind.Int } ∷ [];
-      next_row = rows;
-    }
-
--- the store with this one table, empty
-abbrev pub one_empty_table : State
-one_empty_table = record empty { tables = table_of 0 ∷ [] }
-
--- the store had room for the call
-abbrev pub HadRoom : Reply → Type 0
-HadRoom (reply.Full need largest) = ⊥
-HadRoom (reply.DictFull column) = ⊥
-HadRoom other = Unit {0}
-
--- the history is one of the script's from this state: it is legal, the entries of each session are
--- its statements of the script, all of them, and each is answered
-pub record IsHistoryOf (opened : State) (script : List Line) (history : List Entry) : Type 0 where
-  pub legal : IsLegal opened history
-  pub statements : (session : ℕ)
-      → map (λ entry. entry.call) (entries_of session history) ≡ statements_of session script
-  pub answered : All (λ entry. entry.answered ≡ true) history
-  pub had_room : All (λ entry. HadRoom entry.reply) history
-
 -- the source was read to its end, and gave these bytes
 pub record ReadsToEnd (before after : Told) (bytes : List ℕ) : Type 0 where
   pub gave : Consumes before after bytes
   pub end : IsAtEnd after
   pub within : length bytes ≤ LIMIT
 
--- how a text is written, between what the sink tells before and after
-abbrev pub Writing : Type 1
-Writing = Told → Told → List ℕ → Type 0
+-- one byte past the limit was taken
+abbrev pub IsTooLong : Told → Told → Type 0
+IsTooLong before after = Loses before after (λ count. count ≡ LIMIT + 1)
 
 -- a part of the bytes from the front, or all of them, was appended
-abbrev pub AppendsFront : Writing
+abbrev pub AppendsFront : Told → Told → List ℕ → Type 0
 AppendsFront before after bytes =
     (front : List ℕ) × (rest : List ℕ) × (bytes ≡ front ++ rest) × Appends before after front
 
--- a script was read to its end and run over the one empty table, and its printed history was
--- written so
-pub record RanScript (Writes : Writing) (before after : Streams) : Type 0 where
+-- how an image and a text are written, between what the streams tell before and after
+abbrev pub Writing : Type 1
+Writing = Streams → Streams → List ℕ → List ℕ → Type 0
+
+-- both are appended, each to its sink
+abbrev pub WritesAll : Writing
+WritesAll before after image text =
+    Appends before.image_out after.image_out image × Appends before.out after.out text
+
+-- a part of the image is appended and nothing of the text, or all of the image and a part of the text
+abbrev pub WritesFront : Writing
+WritesFront before after image text =
+    (AppendsFront before.image_out after.image_out image × (after.out ≡ before.out))
+    ⊎ (Appends before.image_out after.image_out image × AppendsFront before.out after.out text)
+
+-- ── what was read ──
+
+-- an image was read to its end, and these are its words
+pub record ReadsImage (before after : Told) (words : List ℕ) : Type 0 where
   pub bytes : List ℕ
+  pub read : ReadsToEnd before after bytes
+  pub image : IsImage words
+  pub spelled : bytes ≡ spelling words
+
+-- bytes were read to their end, and this is their first fault as those of an image
+pub record ReadsNoImage (before after : Told) (error : ImageError) : Type 0 where
+  pub bytes : List ℕ
+  pub read : ReadsToEnd before after bytes
+  pub fault : first_fault bytes ≡ Some error
+
+-- a script was read to its end, or refused
+pub record ReadsScript (before after : Told) (script : Result (List Line) ScriptError) : Type 0 where
+  pub bytes : List ℕ
+  pub read : ReadsToEnd before after bytes
+  pub spelled : script_of bytes ≡ script
+
+-- ── what a script's run leaves ──
+
+-- the bytes of an image and a text that a script leaves over the image of these words
+abbrev pub Leaving : Type 1
+Leaving = List ℕ → List Line → List ℕ → List ℕ → Type 0
+
+-- The script was run to its end, without a cut or before it: the image is that of the device's words.
+pub record Finishes (cut : Option ℕ) (words : List ℕ) (script : List Line) (image text : List ℕ) : Type 0 where
+  pub moment : Moment
+  pub played : ℕ
+  pub run : IsRun words script played moment
+  pub finished : IsFinished script moment
+  pub uncut : IsUncut cut script played
+  pub image_is : image ≡ spelling moment.device.cached
+  pub text_is : text ≡ history_text moment.history
+
+-- The power was cut at the first moment at which so many actions were played and a statement had no reply: the image is the
+-- one that keeps these words of the device, which is one that a power cut can leave.
+pub record IsCutOff (cut : Option ℕ) (keep : Keep) (words : List ℕ) (script : List Line) (image text : List ℕ) : Type 0 where
+  pub moment : Moment
+  pub number : ℕ
+  pub cut_is : cut ≡ Some number
+  pub run : IsRun words script number moment
+  pub first : IsFirstAt number script moment
+  pub left : IsCrashImage moment.device (image_of keep moment.device)
+  pub image_is : image ≡ spelling (image_of keep moment.device)
+  pub text_is : text ≡ history_text moment.history
+
+-- ── what a call has done ──
+
+-- a script was run over the image of these words, and what it left was written
+pub record WrittenRun (Leaves : Leaving) (Writes : Writing) (words : List ℕ) (script : List Line) (before after : Streams) : Type 0 where
+  pub image : List ℕ
+  pub text : List ℕ
+  pub left : Leaves words script image text
+  pub written : Writes before after image text
+
+-- an image and a script were read, the script was run over the image, and what it left was written
+pub record RanScript (Leaves : Leaving) (Writes : Writing) (before after : Streams) : Type 0 where
+  pub words : List ℕ
   pub script : List Line
-  pub history : List Entry
-  pub read : ReadsToEnd before.input after.input bytes
-  pub spelled : script_of bytes ≡ Ok script
-  pub ran : IsHistoryOf one_empty_table script history
-  pub printed : Writes before.out after.out (history_text history)
+  pub read_image : ReadsImage before.image after.image words
+  pub read_script : ReadsScript before.input after.input (Ok script)
+  pub run : WrittenRun Leaves Writes words script before after
 
--- a script was read to its end, and this line is its first bad one
-pub record RefusedScript (line rule : ℕ) (before after : Streams) : Type 0 where
-  pub bytes : List ℕ
-  pub read : ReadsToEnd before.input after.input bytes
-  pub bad : script_of bytes ≡ Err (script_error.BadLine line rule)
+-- the image was read, and the script refused
+pub record RefusedScript (number rule : ℕ) (before after : Streams) : Type 0 where
+  pub words : List ℕ
+  pub read_image : ReadsImage before.image after.image words
+  pub read_script : ReadsScript before.input after.input (Err (script_error.BadLine number rule))
 
--- the job is done, where its text was written so
-abbrev pub DidJob : Job → Writing → Streams → Streams → Type 0
-DidJob job.Script Writes before after = RanScript Writes before after
+-- the image and the script were read, and the image breaks this rule first
+pub record RefusedImage (fault : Fault) (before after : Streams) : Type 0 where
+  pub words : List ℕ
+  pub script : List Line
+  pub read_image : ReadsImage before.image after.image words
+  pub read_script : ReadsScript before.input after.input (Ok script)
+  pub fault_is : opening_fault words ≡ Some fault
 
--- the job read a script, and refused it
-abbrev pub RefusedJob : Job → ℕ → ℕ → Streams → Streams → Type 0
-RefusedJob job.Script line rule before after = RefusedScript line rule before after
+-- one of the inputs is too long: the image, or the script behind an image that was read
+abbrev pub HasTooLong : Streams → Streams → Type 0
+HasTooLong before after =
+    (IsTooLong before.image after.image × (after.input ≡ before.input))
+    ⊎ (((words : List ℕ) × ReadsImage before.image after.image words) × IsTooLong before.input after.input)
 
--- the words are a command of `run`, and its job has this
-abbrev pub OfJob : Option Command → (Job → Type 0) → Type 0
-OfJob None P = ⊥
-OfJob (Some (Run job paths)) P = P job
+-- what `script` has done, where it ends with this status
+abbrev pub EndsScript : Status → Option ℕ → Keep → Streams → Streams → Type 0
+EndsScript status.Done cut keep before after = RanScript (Finishes cut) WritesAll before after
+EndsScript status.Usage cut keep before after = ⊥
+EndsScript (status.BadScript number rule) cut keep before after = RefusedScript number rule before after
+EndsScript (status.BadBytes error) cut keep before after =
+    ReadsNoImage before.image after.image error × (after.input ≡ before.input)
+EndsScript (status.BadImage rule place) cut keep before after =
+    RefusedImage (record { rule = rule; place = place }) before after
+EndsScript status.PowerCut cut keep before after = RanScript (IsCutOff cut keep) WritesAll before after
+EndsScript status.ReadFault cut keep before after = Unit {0}
+EndsScript status.WriteFault cut keep before after =
+    RanScript (Finishes cut) WritesFront before after ⊎ RanScript (IsCutOff cut keep) WritesFront before after
+EndsScript status.NoMemory cut keep before after = Unit {0}
+EndsScript status.InputTooLong cut keep before after = HasTooLong before after
+
+-- what `format` has done, where it ends with this status
+abbrev pub EndsFormat : Status → ℕ → Streams → Streams → Type 0
+EndsFormat status.Done segments before after =
+    Appends before.image_out after.image_out (spelling (stage_words segments))
+EndsFormat status.WriteFault segments before after =
+    AppendsFront before.image_out after.image_out (spelling (stage_words segments))
+EndsFormat status.NoMemory segments before after = Unit {0}
+EndsFormat other segments before after = ⊥
+
+-- what the call has done with words that are no command
+abbrev pub EndsUnread : Status → Type 0
+EndsUnread status.Usage = Unit {0}
+EndsUnread status.NoMemory = Unit {0}
+EndsUnread other = ⊥
 
 -- what the call has done, where it ends with this status
-abbrev pub Ends : Status → Option Command → Streams → Streams → Type 0
-Ends status.Done command before after = OfJob command (λ job. DidJob job Appends before after)
-Ends status.Usage command before after = command ≡ None
-Ends (status.BadScript line rule) command before after =
-    OfJob command (λ job. RefusedJob job line rule before after)
-Ends status.ReadFault command before after = OfJob command (λ job. Unit {0})
-Ends status.WriteFault command before after =
-    OfJob command (λ job. DidJob job AppendsFront before after)
-Ends status.NoMemory command before after = Unit {0}
-Ends status.InputTooLong command before after = OfJob command (λ job. Unit {0})
+abbrev pub Ends : Status → Option Job → Streams → Streams → Type 0
+Ends given None before after = EndsUnread given
+Ends given (Some (job.Format segments)) before after = EndsFormat given segments before after
+Ends given (Some (job.Script cut keep)) before after = EndsScript given cut keep before after
 
--- this holds, unless the call ends where it writes its text
+-- this holds where the job reads nothing and prints nothing
+abbrev pub UnlessScript : Option Job → Type 0 → Type 0
+UnlessScript None claim = claim
+UnlessScript (Some (job.Format segments)) claim = claim
+UnlessScript (Some (job.Script cut keep)) claim = Unit {0}
+
+-- this holds, unless the call ends where it writes its image and its text
 abbrev pub UnlessWritten : Status → Type 0 → Type 0
 UnlessWritten status.Done claim = Unit {0}
+UnlessWritten status.PowerCut claim = Unit {0}
 UnlessWritten status.WriteFault claim = Unit {0}
 UnlessWritten other claim = claim
 
--- the input is too long exactly where one byte past the limit was taken, and no more are taken
+-- at most one byte past the limit was taken, and that one only where the input is answered to be too long
 abbrev pub TakesInput : Status → Told → Told → Type 0
 TakesInput given before after =
-    Loses before after (λ count.
-    (count ≤ LIMIT + 1) × ((given ≡ status.InputTooLong) ↔ (count ≡ LIMIT + 1)))
+    Loses before after (λ count. (count ≤ LIMIT + 1) × (count ≡ LIMIT + 1 → given ≡ status.InputTooLong))
 
--- the status that is due for a script, unless memory runs out or a stream fails
-abbrev pub status_of_script : Result (List Line) ScriptError → Status
-status_of_script (Ok script) = status.Done
-status_of_script (Err (script_error.BadLine line rule)) = status.BadScript line rule
-status_of_script (Err script_error.NoMemory) = status.NoMemory
+-- ── which status is due ──
 
--- the status that is due to the words and the input, in the order of work
-abbrev pub due_status : Option Command → List ℕ → Status
-due_status None input = status.Usage
-due_status (Some (Run job.Script paths)) input =
-    if nat_lt LIMIT (length input) then status.InputTooLong else status_of_script (script_of input)
+-- a run ends with Done, or with a power cut where there is one; a sink may fail
+abbrev pub IsDueOfRun : Option ℕ → Status → Type 0
+IsDueOfRun cut status.Done = Unit {0}
+IsDueOfRun (Some number) status.PowerCut = Unit {0}
+IsDueOfRun cut status.WriteFault = Unit {0}
+IsDueOfRun cut other = ⊥
 
--- the call may end with this status where the other one is due: memory may run out at any time, a
--- source may fail where one is read, and a sink where the work is done
-abbrev pub MayEnd : Status → Status → Type 0
-MayEnd due status.NoMemory = Unit {0}
-MayEnd status.Usage status.ReadFault = ⊥
-MayEnd due status.ReadFault = Unit {0}
-MayEnd status.Done status.WriteFault = Unit {0}
-MayEnd due status.WriteFault = ⊥
-MayEnd due given = given ≡ due
+abbrev pub IsDueOfOpening : Option Fault → Option ℕ → Status → Type 0
+IsDueOfOpening None cut given = IsDueOfRun cut given
+IsDueOfOpening (Some fault) cut given = given ≡ status.BadImage fault.rule fault.place
+
+abbrev pub IsDueOfScript : Result (List Line) ScriptError → Option Fault → Option ℕ → Status → Type 0
+IsDueOfScript (Ok script) fault cut given = IsDueOfOpening fault cut given
+IsDueOfScript (Err (script_error.BadLine number rule)) fault cut given = given ≡ status.BadScript number rule
+IsDueOfScript (Err script_error.NoMemory) fault cut given = ⊥
+
+-- the first claim where the test holds, and else the second
+abbrev pub Whichever : Bool → Type 0 → Type 0 → Type 0
+Whichever true first second = first
+Whichever false first second = second
+
+abbrev pub IsDueOfInput : List ℕ → Option Fault → Option ℕ → Status → Type 0
+IsDueOfInput input fault cut given =
+    Whichever (nat_lt LIMIT (length input)) (given ≡ status.InputTooLong) (IsDueOfScript (script_of input) fault cut given)
+
+abbrev pub IsDueOfFault : Option ImageError → List ℕ → Option Fault → Option ℕ → Status → Type 0
+IsDueOfFault None input fault cut given = IsDueOfInput input fault cut given
+IsDueOfFault (Some error) input fault cut given = given ≡ status.BadBytes error
+
+-- the status that is due to the bytes of the image and of the input, in the order of work
+abbrev pub IsDueOfImage : List ℕ → List ℕ → Option Fault → Option ℕ → Status → Type 0
+IsDueOfImage image input fault cut given =
+    Whichever (nat_lt LIMIT (length image)) (given ≡ status.InputTooLong) (IsDueOfFault (first_fault image) input fault cut given)
+
+-- of a script, a source may fail too
+abbrev pub MayEndScript : List ℕ → List ℕ → Option Fault → Option ℕ → Status → Type 0
+MayEndScript image input fault cut status.ReadFault = Unit {0}
+MayEndScript image input fault cut status.NoMemory = Unit {0}
+MayEndScript image input fault cut other = IsDueOfImage image input fault cut other
+
+abbrev pub MayEndFormat : Status → Type 0
+MayEndFormat status.Done = Unit {0}
+MayEndFormat status.WriteFault = Unit {0}
+MayEndFormat status.NoMemory = Unit {0}
+MayEndFormat other = ⊥
+
+-- The call may end with this status: it is the one that is due to the words, the bytes of the image and those of the
+-- input, or memory has run out, or a stream has failed. The fault is that of the words that the image spells.
+abbrev pub MayEnd : Option Job → List ℕ → List ℕ → Option Fault → Status → Type 0
+MayEnd None image input fault given = EndsUnread given
+MayEnd (Some (job.Format segments)) image input fault given = MayEndFormat given
+MayEnd (Some (job.Script cut keep)) image input fault given = MayEndScript image input fault cut given
+
+-- these are the words that the bytes spell, if they spell any
+abbrev pub AreWordsOf : List ℕ → List ℕ → Type 0
+AreWordsOf bytes words = first_fault bytes ≡ None → IsImage words × (bytes ≡ spelling words)

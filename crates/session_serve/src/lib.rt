@@ -1,8 +1,9 @@
-//! A script run from bytes to bytes: the words of the command line, the job that they name, and the
-//! printed history of one session.
+//! Commands from words and bytes to bytes: the words of the command line, the job that they name, the image and the
+//! script that are read, and the image and the printed history that are written.
 #![tactic(auto)]
 
-mod engine;
+mod leaving;
+mod playing;
 mod serving;
 mod status;
 #[cfg(test)]

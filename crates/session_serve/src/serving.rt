@@ -1,127 +1,201 @@
-ghost use Rattle.std.specs.Prelude.{◌≡◌, ◌<◌, ◌^◌, ◌≤◌, List, ℕ, All, IfOk, IfSome, OnErr, OnOk, map, length, string_bytes};
+ghost use Rattle.std.specs.Prelude.{◌≡◌, ◌⊎◌, ◌<◌, ◌≤◌, List, ℕ, Ok, None, All, IfOk, IfErr, IfSome, IsErrOf, OnErr, OnOk, map, length, string_bytes};
 ghost use Rattle.std.specs.Io.KnownBytes.{Appends};
 ghost use Rattle.io_edge.specs.Faults.{HasCause, Rose};
 ghost use Rattle.io_edge.specs.declared.reading.TheConstants.{LIMIT};
-ghost use Rattle.script_text.specs.Printed.{HasIntegers};
+ghost use Rattle.pm_image.specs.Spelling.{IsImage, spelling};
+ghost use Rattle.engine_core.specs.Opening.{opening_fault};
+ghost use Rattle.engine_core.specs.Stage.{stage_words};
 ghost use Rattle.script_text.specs.Script.{IsBuiltLine};
-ghost use Rattle.session_serve.specs.Words.{command_of};
-ghost use Rattle.session_serve.specs.Runs.{AppendsFront, Ends, HadRoom, IsHistoryOf, MayEnd, TakesInput, UnlessWritten, due_status, one_empty_table, streams};
-ghost use Rattle.session_serve.specs.Parts.{IsEntryOf, PlayedScript, RanBytes, RanInput};
-ghost use Rattle.mv_model.specs.History.{IsAllowed};
-ghost use Rattle.mv_model.specs.Next.{next};
+ghost use Rattle.session_serve.specs.Words.{job_of};
+ghost use Rattle.session_serve.specs.Runs.{AppendsFront, AreWordsOf, Ends, EndsFormat, EndsScript, MayEnd, ReadsImage, ReadsScript, ReadsToEnd, TakesInput, UnlessScript, UnlessWritten, streams};
+ghost use Rattle.session_serve.specs.Parts.{IsNoImage, IsNoScript, IsUnread, IsWritten, RanWords, Takes};
 ghost use Rattle.session_serve.specs.declared.status.Status.TheVariants as status;
 
-use crate::engine::Engine;
-use crate::{Command, Job, Status, WordsError, read_words};
+use crate::leaving::{Left, play};
+use crate::playing::Ending;
+use crate::words::read_job;
+use crate::{Job, Status, WordsError};
+use engine_core::{OpenError, stage_fresh};
 use io_edge::{Failed, ReadAllError, Sink, Source, read_all, write_all};
-use mv_model::{Entry, NoMemory};
-use script_text::{Line, Script, ScriptError, print_history, read_script};
+use pm_image::{ImageError, decode, encode};
+use pm_model::Keep;
+use script_text::{Script, ScriptError, read_script};
 use std::alloc::Global;
 
-/// Answers the statement of a line, as the `ordinal`th.
-fn answer_line(engine: &mut Engine, ordinal: u32, line: Line) -> Entry
-    requires { IsBuiltLine line }
-    ensures said { IsEntryOf line result }
-    ensures ordinal { result.ordinal ≡ ordinal }
-    ensures allowed { IsAllowed engine.old 1 result.call result.reply }
-    ensures room { HadRoom result.reply }
-    ensures state { engine.new ≡ next engine.old 1 result.call result.reply }
-    ensures integers { HasIntegers result.reply }
+/// Reads a source to its end.
+fn read_bytes<S: Source>(alloc: Global, from: &mut S) -> Result<Vec<u8>, Status>
+    ensures read { IfOk result (λ bytes. ReadsToEnd (S.left from.old) (S.left from.new) bytes.items) }
+    ensures refused { IfErr result (λ given. IsUnread given (S.left from.old) (S.left from.new)) }
+    ensures taken { Takes result (S.left from.old) (S.left from.new) }
+    ensures later { S.faults from.old ≤ S.faults from.new }
+    ensures fault { IsErrOf result status.ReadFault → Rose (S.faults from.old) (S.faults from.new) }
 {
-    let Line::Say { call, .. } = line;
-    Entry {
-        session: 1,
-        ordinal,
-        reply: engine.answer(&call),
-        call,
-        answered: true,
+    match read_all(alloc, from) {
+        Ok(bytes) => Ok(bytes),
+        Err(ReadAllError::TooLong) => Err(Status::InputTooLong),
+        Err(ReadAllError::Fault) => Err(Status::ReadFault),
+        Err(ReadAllError::NoMemory) => Err(Status::NoMemory),
     }
 }
 
-/// Answers the statements of a script one after the other.
-fn answer_script(alloc: Global, script: Script) -> Result<Vec<Entry>, NoMemory>
-    requires { All IsBuiltLine script }
-    ensures ran { IfOk result (λ history. IsHistoryOf one_empty_table script history.items) }
-    ensures integers { IfOk result (λ history.
-        All (λ entry. HasIntegers entry.reply) history.items) }
+/// Reads the words of an image.
+fn read_image<S: Source>(alloc: Global, from: &mut S) -> Result<Vec<u64>, Status>
+    ensures image { IfOk result (λ words. IsImage words.items) }
+    ensures read { IfOk result (λ words. ReadsImage (S.left from.old) (S.left from.new) words.items) }
+    ensures refused { IfErr result (λ given. IsNoImage given (S.left from.old) (S.left from.new)) }
+    ensures taken { Takes result (S.left from.old) (S.left from.new) }
+    ensures later { S.faults from.old ≤ S.faults from.new }
+    ensures fault { IsErrOf result status.ReadFault → Rose (S.faults from.old) (S.faults from.new) }
 {
-    let mut engine = Engine::new(alloc);
-    let lines = script.into_vec();
-    let mut history = Vec::with_capacity(alloc, lines.len())?;
-    for line in lines {
-        let ordinal = history.len() as u32 + 1;
-        history.push_reserved(answer_line(&mut engine, ordinal, line));
+    let bytes = read_bytes(alloc, from)?;
+    match decode(alloc, &bytes) {
+        Ok(words) => Ok(words),
+        Err(ImageError::NoMemory) => Err(Status::NoMemory),
+        Err(error) => Err(Status::BadBytes(error)),
     }
-    Ok(history)
 }
 
-/// Writes and flushes the text.
-fn write_text<O: Sink>(text: &[u8], out: &mut O) -> Result<(), Failed>
-    ensures all { OnOk result (Appends (O.held out.old) (O.held out.new) text.now) }
-    ensures front { OnErr result (AppendsFront (O.held out.old) (O.held out.new) text.now) }
-    ensures cause { HasCause (O.faults out.old) (O.faults out.new) result }
+/// Reads a script.
+fn read_lines<S: Source>(alloc: Global, from: &mut S) -> Result<Script, Status>
+    ensures built { IfOk result (λ script. All IsBuiltLine script) }
+    ensures read { IfOk result (λ script. ReadsScript (S.left from.old) (S.left from.new) (Ok script)) }
+    ensures refused { IfErr result (λ given. IsNoScript given (S.left from.old) (S.left from.new)) }
+    ensures taken { Takes result (S.left from.old) (S.left from.new) }
+    ensures later { S.faults from.old ≤ S.faults from.new }
+    ensures fault { IsErrOf result status.ReadFault → Rose (S.faults from.old) (S.faults from.new) }
 {
-    write_all(out, text)?;
-    out.flush()
+    let bytes = read_bytes(alloc, from)?;
+    match read_script(alloc, &bytes) {
+        Ok(script) => Ok(script),
+        Err(ScriptError::NoMemory) => Err(Status::NoMemory),
+        Err(ScriptError::BadLine { line, rule }) => Err(Status::BadScript { line, rule }),
+    }
 }
 
-/// Runs the script and writes its printed history.
-fn run_script<O: Sink>(alloc: Global, script: Script, out: &mut O) -> Status
-    requires { All IsBuiltLine script }
-    ensures ran { PlayedScript result script (O.held out.old) (O.held out.new) }
-    ensures unwritten { UnlessWritten result (out.new ≡ out.old) }
+/// Writes and flushes bytes.
+fn write_bytes<O: Sink>(bytes: &[u8], to: &mut O) -> Result<(), Failed>
+    ensures all { OnOk result (Appends (O.held to.old) (O.held to.new) bytes.now) }
+    ensures front { OnErr result (AppendsFront (O.held to.old) (O.held to.new) bytes.now) }
+    ensures cause { HasCause (O.faults to.old) (O.faults to.new) result }
+{
+    write_all(to, bytes)?;
+    to.flush()
+}
+
+/// Writes what a run has left: the image, and then the text.
+fn write_left<J: Sink, O: Sink>(left: &Left, image_out: &mut J, out: &mut O) -> Status
+    ensures written { IsWritten left.now.ending result
+        (streams None None (J.held image_out.old) (O.held out.old))
+        (streams None None (J.held image_out.new) (O.held out.new)) left.now.image.items left.now.text.items }
+    ensures image_later { J.faults image_out.old ≤ J.faults image_out.new }
     ensures later { O.faults out.old ≤ O.faults out.new }
-    ensures fault { result ≡ status.WriteFault → Rose (O.faults out.old) (O.faults out.new) }
+    ensures fault { result ≡ status.WriteFault
+        → Rose (J.faults image_out.old) (J.faults image_out.new) ⊎ Rose (O.faults out.old) (O.faults out.new) }
 {
-    let Ok(history) = answer_script(alloc, script) else {
+    if write_bytes(&left.image, image_out).is_err() || write_bytes(&left.text, out).is_err() {
+        return Status::WriteFault;
+    }
+    match left.ending {
+        Ending::Finished => Status::Done,
+        Ending::Cut => Status::PowerCut,
+    }
+}
+
+/// Runs a script over the image of these words, and writes what it leaves.
+fn run_words<J: Sink, O: Sink>(
+    alloc: Global,
+    words: Vec<u64>,
+    script: Script,
+    cut: Option<u64>,
+    keep: Keep,
+    image_out: &mut J,
+    out: &mut O,
+) -> Status
+    requires image { IsImage words.items }
+    requires built { All IsBuiltLine script }
+    ensures ran { RanWords result cut keep words.items script
+        (streams None None (J.held image_out.old) (O.held out.old))
+        (streams None None (J.held image_out.new) (O.held out.new)) }
+    ensures image_unwritten { UnlessWritten result (image_out.new ≡ image_out.old) }
+    ensures unwritten { UnlessWritten result (out.new ≡ out.old) }
+    ensures image_later { J.faults image_out.old ≤ J.faults image_out.new }
+    ensures later { O.faults out.old ≤ O.faults out.new }
+    ensures fault { result ≡ status.WriteFault
+        → Rose (J.faults image_out.old) (J.faults image_out.new) ⊎ Rose (O.faults out.old) (O.faults out.new) }
+{
+    match play(alloc, words, script, cut, keep) {
+        Ok(left) => write_left(&left, image_out, out),
+        Err(OpenError::BadImage { rule, place }) => Status::BadImage { rule, place },
+        Err(OpenError::NoMemory) => Status::NoMemory,
+    }
+}
+
+/// Reads an image and a script, runs the script over the image, and writes what it leaves.
+fn run_script<I: Source, S: Source, J: Sink, O: Sink>(
+    alloc: Global,
+    cut: Option<u64>,
+    keep: Keep,
+    image: &mut I,
+    input: &mut S,
+    image_out: &mut J,
+    out: &mut O,
+) -> Status
+    ensures ends { EndsScript result cut keep
+        (streams (I.left image.old) (S.left input.old) (J.held image_out.old) (O.held out.old))
+        (streams (I.left image.new) (S.left input.new) (J.held image_out.new) (O.held out.new)) }
+    ensures image_taken { TakesInput result (I.left image.old) (I.left image.new) }
+    ensures taken { TakesInput result (S.left input.old) (S.left input.new) }
+    ensures read_fault { result ≡ status.ReadFault
+        → Rose (I.faults image.old) (I.faults image.new) ⊎ Rose (S.faults input.old) (S.faults input.new) }
+    ensures image_read_later { I.faults image.old ≤ I.faults image.new }
+    ensures read_later { S.faults input.old ≤ S.faults input.new }
+    ensures write_fault { result ≡ status.WriteFault
+        → Rose (J.faults image_out.old) (J.faults image_out.new) ⊎ Rose (O.faults out.old) (O.faults out.new) }
+    ensures image_write_later { J.faults image_out.old ≤ J.faults image_out.new }
+    ensures write_later { O.faults out.old ≤ O.faults out.new }
+    ensures image_unwritten { UnlessWritten result (image_out.new ≡ image_out.old) }
+    ensures unwritten { UnlessWritten result (out.new ≡ out.old) }
+{
+    let words = match read_image(alloc, image) {
+        Ok(words) => words,
+        Err(status) => return status,
+    };
+    let script = match read_lines(alloc, input) {
+        Ok(script) => script,
+        Err(status) => return status,
+    };
+    run_words(alloc, words, script, cut, keep, image_out, out)
+}
+
+/// Writes the image of a formatted device.
+fn run_format<J: Sink>(alloc: Global, segments: u32, image_out: &mut J) -> Status
+    requires one_or_more { 1 ≤ segments }
+    requires most { segments ≤ 128 }
+    ensures ends { EndsFormat result segments
+        (streams None None (J.held image_out.old) None) (streams None None (J.held image_out.new) None) }
+    ensures later { J.faults image_out.old ≤ J.faults image_out.new }
+    ensures fault { result ≡ status.WriteFault → Rose (J.faults image_out.old) (J.faults image_out.new) }
+    ensures unwritten { UnlessWritten result (image_out.new ≡ image_out.old) }
+{
+    let Ok(words) = stage_fresh(alloc, segments) else {
         return Status::NoMemory;
     };
-    let Ok(text) = print_history(alloc, &history) else {
+    let Ok(bytes) = encode(alloc, &words) else {
         return Status::NoMemory;
     };
-    match write_text(&text, out) {
+    match write_bytes(&bytes, image_out) {
         Ok(()) => Status::Done,
         Err(Failed) => Status::WriteFault,
     }
 }
 
-/// Reads the script that the bytes spell, and runs it.
-fn run_bytes<O: Sink>(alloc: Global, bytes: &[u8], out: &mut O) -> Status
-    requires { length bytes.now ≤ LIMIT }
-    ensures ran { RanBytes result bytes.now (O.held out.old) (O.held out.new) }
-    ensures unwritten { UnlessWritten result (out.new ≡ out.old) }
-    ensures later { O.faults out.old ≤ O.faults out.new }
-    ensures fault { result ≡ status.WriteFault → Rose (O.faults out.old) (O.faults out.new) }
-{
-    match read_script(alloc, bytes) {
-        Err(ScriptError::BadLine { line, rule }) => Status::BadScript { line, rule },
-        Err(ScriptError::NoMemory) => Status::NoMemory,
-        Ok(script) => run_script(alloc, script, out),
-    }
-}
-
-/// Reads the input to its end, and runs the script that it spells.
-fn run_input<S: Source, O: Sink>(alloc: Global, input: &mut S, out: &mut O) -> Status
-    ensures ran { RanInput result (S.left input.old) (S.left input.new)
-        (O.held out.old) (O.held out.new) }
-    ensures taken { TakesInput result (S.left input.old) (S.left input.new) }
-    ensures unwritten { UnlessWritten result (out.new ≡ out.old) }
-    ensures read_later { S.faults input.old ≤ S.faults input.new }
-    ensures read_fault { result ≡ status.ReadFault
-        → Rose (S.faults input.old) (S.faults input.new) }
-    ensures write_later { O.faults out.old ≤ O.faults out.new }
-    ensures write_fault { result ≡ status.WriteFault → Rose (O.faults out.old) (O.faults out.new) }
-{
-    match read_all(alloc, input) {
-        Err(ReadAllError::TooLong) => Status::InputTooLong,
-        Err(ReadAllError::Fault) => Status::ReadFault,
-        Err(ReadAllError::NoMemory) => Status::NoMemory,
-        Ok(bytes) => run_bytes(alloc, &bytes, out),
-    }
-}
-
-/// Does the job of the words. `script SCRIPT` reads a script from `input`, runs it over the one
-/// empty table `t a:int`, and writes the printed history to `out`.
+/// Does the job of the words. `format` writes the image of a formatted device. `script` opens the image that it reads from
+/// `image`, runs the script that it reads from `input`, one statement after the other, and writes the image that it leaves to
+/// `image_out` and the printed history to `out`; with a cut it stops at the first moment at which so many actions were
+/// played and a statement has no reply.
+///
+/// The work is done in this order, and of several causes the first one is answered: the words are read; the image; the
+/// input; the image is opened; the calls run; the image is written and flushed; the text is written and flushed.
 pub fn run<I: Source, S: Source, J: Sink, O: Sink>(
     alloc: Global,
     words: &[String],
@@ -131,42 +205,42 @@ pub fn run<I: Source, S: Source, J: Sink, O: Sink>(
     out: &mut O,
 ) -> Status
     // What the call has done, by the status that it ends with.
-    ensures ends { Ends result (command_of (map string_bytes words.now))
+    ensures ends { Ends result (job_of (map string_bytes words.now))
         (streams (I.left image.old) (S.left input.old) (J.held image_out.old) (O.held out.old))
         (streams (I.left image.new) (S.left input.new) (J.held image_out.new) (O.held out.new)) }
 
-    // The status is the one that is due to the words and the input, unless memory ran out or a
-    // stream failed.
-    ensures due { IfSome (S.left input.old) (λ bytes.
-        MayEnd (due_status (command_of (map string_bytes words.now)) bytes) result) }
+    // The status is the one that is due to the words, the image and the input, unless memory ran out or a stream failed.
+    ensures due { IfSome (I.left image.old) (λ image_bytes. IfSome (S.left input.old) (λ input_bytes.
+        (spelled : List ℕ) → AreWordsOf image_bytes spelled
+        → MayEnd (job_of (map string_bytes words.now)) image_bytes input_bytes (opening_fault spelled) result)) }
 
-    // The input is too long exactly where one byte past the limit was taken, and no more are taken.
+    // No more than one byte past the limit is taken of an input, and that one only where it is answered to be too long.
+    ensures image_taken { TakesInput result (I.left image.old) (I.left image.new) }
     ensures taken { TakesInput result (S.left input.old) (S.left input.new) }
 
-    // A fault is answered only where the stream's count rose, and no count falls.
+    // A fault is answered only where a stream's count rose, and no count falls.
     ensures read_fault { result ≡ status.ReadFault
-        → Rose (S.faults input.old) (S.faults input.new) }
+        → Rose (I.faults image.old) (I.faults image.new) ⊎ Rose (S.faults input.old) (S.faults input.new) }
+    ensures image_read_later { I.faults image.old ≤ I.faults image.new }
     ensures read_later { S.faults input.old ≤ S.faults input.new }
-    ensures write_fault { result ≡ status.WriteFault → Rose (O.faults out.old) (O.faults out.new) }
+    ensures write_fault { result ≡ status.WriteFault
+        → Rose (J.faults image_out.old) (J.faults image_out.new) ⊎ Rose (O.faults out.old) (O.faults out.new) }
+    ensures image_write_later { J.faults image_out.old ≤ J.faults image_out.new }
     ensures write_later { O.faults out.old ≤ O.faults out.new }
 
-    // The output is touched only where the text is written, and the input only where the words
-    // are a command.
+    // The outputs are touched only where the image and the text are written, and only a script reads and prints.
+    ensures image_unwritten { UnlessWritten result (image_out.new ≡ image_out.old) }
     ensures unwritten { UnlessWritten result (out.new ≡ out.old) }
-    ensures unread { result ≡ status.Usage → input.new ≡ input.old }
-
-    // The image is neither read nor written.
-    ensures image { image.new ≡ image.old }
-    ensures image_out { image_out.new ≡ image_out.old }
+    ensures unprinted { UnlessScript (job_of (map string_bytes words.now)) (out.new ≡ out.old) }
+    ensures image_unread { UnlessScript (job_of (map string_bytes words.now)) (image.new ≡ image.old) }
+    ensures unread { UnlessScript (job_of (map string_bytes words.now)) (input.new ≡ input.old) }
 {
-    match read_words(alloc, words) {
+    match read_job(alloc, words) {
         Err(WordsError::Usage) => Status::Usage,
         Err(WordsError::NoMemory) => Status::NoMemory,
-        Ok(
-            Command::Run {
-                job: Job::Script,
-                ..
-            },
-        ) => run_input(alloc, input, out),
+        Ok(Job::Format { segments }) => run_format(alloc, segments, image_out),
+        Ok(Job::Script { cut, keep }) => {
+            run_script(alloc, cut, keep, image, input, image_out, out)
+        }
     }
 }

@@ -3,7 +3,10 @@
 //! What a command does is `session_serve::run`; here real files and standard output are put under it.
 #![tactic(auto)]
 
-use io_edge::{CleanSink, CleanSource, EdgeSink, EdgeSource, Source};
+mod late_file;
+
+use io_edge::{CleanSink, CleanSource, EdgeSink, EdgeSource, Sink, Source};
+use late_file::LateFile;
 use session_serve::{Command, Paths, Status, WordsError, read_words, run, status_text};
 use std::alloc::Global;
 use std::fs::File;
@@ -19,20 +22,65 @@ fn command_words(rt: &HostRuntime, alloc: Global) -> io::Result<Vec<String>> {
     Ok(words)
 }
 
-/// Runs the command over this input and standard output. No command reads or writes an image yet.
-fn run_over<S: Source>(rt: &HostRuntime, alloc: Global, words: &[String], input: &mut S) -> Status {
-    let mut image = CleanSource::new(Vec::new(alloc));
-    let mut image_out = CleanSink::new();
-    let mut out = EdgeSink::new(io::writer(rt));
-    run(alloc, words, &mut image, input, &mut image_out, &mut out)
+/// A source with nothing in it.
+fn no_source(alloc: Global) -> CleanSource {
+    CleanSource::new(Vec::new(alloc))
 }
 
-/// Runs the command over the files that it names.
-fn run_files(rt: &HostRuntime, alloc: Global, words: &[String], paths: &Paths) -> Status {
+/// Runs the command over these streams and standard output.
+fn run_over<I: Source, S: Source, J: Sink>(
+    rt: &HostRuntime,
+    alloc: Global,
+    words: &[String],
+    image: &mut I,
+    input: &mut S,
+    image_out: &mut J,
+) -> Status {
+    let mut out = EdgeSink::new(io::writer(rt));
+    run(alloc, words, image, input, image_out, &mut out)
+}
+
+/// Runs the command over these sources and the file that it writes.
+fn run_into<I: Source, S: Source>(
+    rt: &HostRuntime,
+    alloc: Global,
+    words: &[String],
+    paths: &Paths,
+    image: &mut I,
+    input: &mut S,
+) -> Status {
+    match &paths.image_out {
+        None => run_over(rt, alloc, words, image, input, &mut CleanSink::new()),
+        Some(path) => {
+            let mut file = EdgeSink::new(LateFile::new(rt, path.as_str()));
+            run_over(rt, alloc, words, image, input, &mut file)
+        }
+    }
+}
+
+/// Runs the command over this image and the other files that it names.
+fn run_image<I: Source>(
+    rt: &HostRuntime,
+    alloc: Global,
+    words: &[String],
+    paths: &Paths,
+    image: &mut I,
+) -> Status {
     match &paths.input {
-        None => run_over(rt, alloc, words, &mut CleanSource::new(Vec::new(alloc))),
+        None => run_into(rt, alloc, words, paths, image, &mut no_source(alloc)),
         Some(path) => match File::open(rt, path.as_str()) {
-            Ok(file) => run_over(rt, alloc, words, &mut EdgeSource::new(file)),
+            Ok(file) => run_into(rt, alloc, words, paths, image, &mut EdgeSource::new(file)),
+            Err(_) => Status::ReadFault,
+        },
+    }
+}
+
+/// Runs the command over the files that it names. A path that can't be opened for reading is a read fault.
+fn run_files(rt: &HostRuntime, alloc: Global, words: &[String], paths: &Paths) -> Status {
+    match &paths.image {
+        None => run_image(rt, alloc, words, paths, &mut no_source(alloc)),
+        Some(path) => match File::open(rt, path.as_str()) {
+            Ok(file) => run_image(rt, alloc, words, paths, &mut EdgeSource::new(file)),
             Err(_) => Status::ReadFault,
         },
     }
@@ -42,7 +90,16 @@ fn run_words(rt: &HostRuntime, alloc: Global, words: &[String]) -> Status {
     match read_words(alloc, words) {
         Ok(Command::Run { paths, .. }) => run_files(rt, alloc, words, &paths),
         Err(WordsError::Usage) => {
-            run_over(rt, alloc, words, &mut CleanSource::new(Vec::new(alloc)))
+            let mut image = no_source(alloc);
+            let mut input = no_source(alloc);
+            run_over(
+                rt,
+                alloc,
+                words,
+                &mut image,
+                &mut input,
+                &mut CleanSink::new(),
+            )
         }
         Err(WordsError::NoMemory) => Status::NoMemory,
     }

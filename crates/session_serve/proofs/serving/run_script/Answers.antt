@@ -1,0 +1,9 @@
+use Rattle.session_serve.proofs.Served.{ends-ran, takes-on}
+use Rattle.session_serve.proofs.serving.run_script.Goals as goal
+
+pub returns-clause-ends : goal.returns-clause-ends
+returns-clause-ends g c =
+    ends-ran c.args.cut c.args.keep _ _ _ _ _ _ _ _ c.in-Ok.words.items c.in-Ok-read_lines.script c.in-Ok.ensures.read c.in-Ok-read_lines.ensures.read c.run_words.result c.run_words.ensures.ran
+
+pub returns-clause-taken : goal.returns-clause-taken
+returns-clause-taken g c = takes-on c.run_words.result c.read_lines.result c.in-Ok-read_lines.script _ _ c.in-Ok-read_lines.is c.read_lines.ensures.taken

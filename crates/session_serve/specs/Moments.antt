@@ -1,0 +1,90 @@
+-- A run of a script over an image, at one moment.
+use Rattle.std.specs.Prelude.{ℕ, ◌≡◌, ◌≢◌, ◌⊎◌, ◌+◌, ◌<◌, true, false, List, [], ◌∷◌, ◌++◌, All, length, map, Option, None, Some}
+use Rattle.mv_model.specs.declared.call.Call.{Call}
+use Rattle.mv_model.specs.declared.reply.Entry.{Entry}
+use Rattle.mv_model.specs.State.{State}
+use Rattle.mv_model.specs.History.{IsLegal, entries_of}
+use Rattle.mv_model.specs.Next.{next}
+use Rattle.pm_model.specs.declared.action.Action.{Action}
+use Rattle.pm_model.specs.Device.{Device, IsCrashImage}
+use Rattle.pm_model.specs.Plans.{at_rest, run}
+use Rattle.engine_core.specs.Actions.{actions_in}
+use Rattle.engine_core.specs.Decided.{IsFullWhere}
+use Rattle.engine_core.specs.LogicalState.{logical_state}
+use Rattle.engine_core.specs.Opening.{opening_fault, recovered}
+use Rattle.engine_core.specs.Recoverable.{IsRecoverable, MayRecoverTo, undecided}
+use Rattle.script_text.specs.declared.script.Line.{Line}
+use Rattle.script_text.specs.Script.{statements_of}
+
+-- the opened words, the calls that have their place, the entry of a commit that is decided and has none yet, how many
+-- actions of the plan in play are left, and the device
+pub record Moment : Type 0 where
+  pub opened : List ℕ
+  pub history : List Entry
+  pub due : List Entry
+  pub to_play : ℕ
+  pub device : Device
+
+-- the calls that are decided, those with a place first
+abbrev pub decided : Moment → List Entry
+decided m = m.history ++ m.due
+
+-- the calls that a session said, in its order
+abbrev pub calls_of : ℕ → List Entry → List Call
+calls_of session entries = map (λ entry. entry.call) (entries_of session entries)
+
+-- the first list is the front of the second
+abbrev pub IsFrontOf : List Call → List Call → Type 0
+IsFrontOf front all = (rest : List Call) × (all ≡ front ++ rest)
+
+-- each entry was refused for want of room exactly where the store has none
+abbrev pub AreFullWhere : State → List Entry → Type 0
+AreFullWhere state [] = Unit {0}
+AreFullWhere state (entry ∷ entries) =
+    IsFullWhere state entry.reply × AreFullWhere (next state entry.session entry.call entry.reply) entries
+
+-- The moment is one of a run of the script over the image of these words, when so many actions were played. The history is
+-- legal from the state that the opened words stand for, and the calls are those of the script. Whatever image a power cut
+-- leaves at this moment, opening it gives the commits whose commit word is durable.
+pub record IsRun (words : List ℕ) (script : List Line) (played : ℕ) (m : Moment) : Type 0 where
+  pub accepted : opening_fault words ≡ None
+  pub opened : m.opened ≡ recovered words
+  pub legal : IsLegal (logical_state m.opened) m.history
+  pub legal_due : IsLegal (logical_state m.opened) (decided m)
+  pub said : (session : ℕ) → IsFrontOf (calls_of session (decided m)) (statements_of session script)
+  pub full : AreFullWhere (logical_state m.opened) m.history
+  pub actions : List Action
+  pub count : length actions ≡ played
+  pub device : m.device ≡ run 1 actions (at_rest m.opened)
+  pub counted : played + m.to_play ≡ actions_in (logical_state m.opened) (decided m)
+  pub recoverable : (image : List ℕ) → IsCrashImage m.device image → IsRecoverable image
+  pub may_recover_to : (image : List ℕ) → IsCrashImage m.device image
+      → MayRecoverTo (logical_state m.opened) m.history (undecided m.device m.due) (logical_state image)
+
+-- Every statement was answered, and nothing is left to do: each word that the device has cached is durable.
+pub record IsFinished (script : List Line) (m : Moment) : Type 0 where
+  pub said : (session : ℕ) → calls_of session m.history ≡ statements_of session script
+  pub answered : All (λ entry. entry.answered ≡ true) m.history
+  pub due : m.due ≡ []
+  pub to_play : m.to_play ≡ 0
+  pub clean : m.device.durable ≡ m.device.cached
+
+-- The cut was not reached: there is none, or no statement, or fewer actions were played.
+abbrev pub IsUncut : Option ℕ → List Line → ℕ → Type 0
+IsUncut None script played = Unit {0}
+IsUncut (Some number) script played = (script ≡ []) ⊎ (played < number)
+
+-- The last of these entries is not answered, all others are, and those alone play fewer actions.
+pub record EndsInCall (opened : State) (number : ℕ) (entries : List Entry) : Type 0 where
+  pub front : List Entry
+  pub last : Entry
+  pub is : entries ≡ front ++ last ∷ []
+  pub given_before : All (λ entry. entry.answered ≡ true) front
+  pub open_still : last.answered ≡ false
+  pub before : actions_in opened front < number
+
+-- The moment is the first one at which so many actions were played and a statement has no reply: before the first statement
+-- where that is none, and else within a call.
+abbrev pub IsFirstAt : ℕ → List Line → Moment → Type 0
+IsFirstAt number script m =
+    ((number ≡ 0) × (script ≢ []) × (decided m ≡ [])) ⊎ EndsInCall (logical_state m.opened) number (decided m)

@@ -1,0 +1,100 @@
+// What a run leaves: the bytes of an image and of a text.
+ghost use Rattle.std.specs.Prelude.{◌≡◌, ◌≤◌, ◌%◌, ℕ, List, None, length, All, IfOk, IfErr};
+ghost use Rattle.pm_model.specs.Device.{IsCrashImage, image_of};
+ghost use Rattle.pm_model.specs.Plain.{device_of};
+ghost use Rattle.pm_model.specs.Plans.{at_rest};
+ghost use Rattle.pm_image.specs.Spelling.{IsImage, spelling};
+ghost use Rattle.engine_core.specs.Opened.{IsRefusal};
+ghost use Rattle.engine_core.specs.Opening.{opening_fault, recovered};
+ghost use Rattle.script_text.specs.Printed.{history_text};
+ghost use Rattle.script_text.specs.Script.{IsBuiltLine};
+ghost use Rattle.session_serve.specs.Parts.{LeavesBy, kept_by};
+ghost use Rattle.session_serve.specs.Playing.{IsFresh};
+
+use crate::playing::{Ending, run_core};
+use engine_core::{Core, OpenError};
+use mv_model::NoMemory;
+use pm_image::encode;
+use pm_model::{Keep, Memory, Plain};
+use script_text::{Script, print_history};
+use std::alloc::Global;
+
+/// What a run leaves: the bytes of an image and of a text.
+#[derive(Debug, Drop)]
+pub(crate) struct Left {
+    pub ending: Ending,
+    pub image: Vec<u8>,
+    pub text: Vec<u8>,
+}
+
+/// Which words are kept: all of them where nothing was cut.
+fn kept(ending: Ending, keep: Keep) -> Keep
+    ensures { result ≡ kept_by ending keep }
+{
+    match ending {
+        Ending::Finished => Keep::All,
+        Ending::Cut => keep,
+    }
+}
+
+/// The bytes of the image that a power cut leaves.
+fn image_bytes<M: Memory>(alloc: Global, memory: &M, keep: Keep) -> Result<Vec<u8>, NoMemory>
+    ensures { IfOk result (λ bytes. IsCrashImage (M.device memory.now) (image_of keep (M.device memory.now)) × (bytes.items ≡ spelling (image_of keep (M.device memory.now)))) }
+{
+    let words = memory.choose(keep)?;
+    encode(alloc, &words)
+}
+
+/// Runs a script over a core that was just opened.
+fn play_core<M: Memory>(
+    alloc: Global,
+    core: &mut Core<M>,
+    script: Script,
+    cut: Option<u64>,
+    keep: Keep,
+) -> Result<Left, NoMemory>
+    requires built { All IsBuiltLine script }
+    requires fresh { IsFresh core.old }
+    requires rests { M.device core.old.memory ≡ at_rest core.old.opened }
+    ensures { IfOk result (λ left. (words : List ℕ) → opening_fault words ≡ None → core.old.opened ≡ recovered words
+        → LeavesBy left.ending cut keep words script left.image.items left.text.items) }
+{
+    let ending = run_core(core, script, cut)?;
+    let text = print_history(alloc, core.history())?;
+    let image = image_bytes(alloc, core.memory(), kept(ending, keep))?;
+    Ok(Left {
+        ending,
+        image,
+        text,
+    })
+}
+
+/// Opens the image of these words.
+fn open(alloc: Global, words: Vec<u64>) -> Result<Core<Plain>, OpenError>
+    requires { IsImage words.items }
+    ensures fresh { IfOk result (λ core. IsFresh core) }
+    ensures opened { IfOk result (λ core. core.opened ≡ recovered words.items) }
+    ensures rests { IfOk result (λ core. device_of core.memory ≡ at_rest core.opened) }
+    ensures accepted { IfOk result (λ core. opening_fault words.items ≡ None) }
+    ensures refused { IfErr result (λ error. IsRefusal error (opening_fault words.items)) }
+{
+    let memory = Plain::new(alloc, words)?;
+    Core::from_memory(alloc, memory)
+}
+
+/// Opens the image of these words, and runs a script over it.
+pub(crate) fn play(
+    alloc: Global,
+    words: Vec<u64>,
+    script: Script,
+    cut: Option<u64>,
+    keep: Keep,
+) -> Result<Left, OpenError>
+    requires image { IsImage words.items }
+    requires built { All IsBuiltLine script }
+    ensures left { IfOk result (λ left. LeavesBy left.ending cut keep words.items script left.image.items left.text.items) }
+    ensures refused { IfErr result (λ error. IsRefusal error (opening_fault words.items)) }
+{
+    let mut core = open(alloc, words)?;
+    Ok(play_core(alloc, &mut core, script, cut, keep)?)
+}
