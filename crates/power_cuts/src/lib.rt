@@ -1,0 +1,10 @@
+//! A memory that remembers what a power cut would have left of it, and the walk over all power cuts of a script and of the
+//! openings behind them.
+#![tactic(auto)]
+
+mod witness;
+
+pub use witness::Witness;
+
+#[cfg(test)]
+mod tests;
