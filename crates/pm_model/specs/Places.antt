@@ -1,5 +1,5 @@
 -- Pages, and the places that pointers name.
-use Rattle.std.specs.Prelude.{ℕ, ◌+◌, ◌-◌, ◌*◌, ◌/◌, ◌%◌, ◌^◌, Bool, ◌&&◌, ◌||◌, ◌==◌, nat_lt, nat_le, List, length}
+use Rattle.std.specs.Prelude.{ℕ, ◌+◌, ◌-◌, ◌*◌, ◌/◌, ◌%◌, ◌^◌, Bool, ◌&&◌, ◌||◌, ◌==◌, nat_lt, nat_le, List, length, slice_index}
 use Rattle.std.specs.List.{range_with_len}
 use Rattle.pm_model.specs.Pointer.{pointer_word}
 
@@ -37,3 +37,7 @@ is_pointer_to words count word = is_pointer words word && is_in_segment (place_i
 -- it is null or such a pointer
 abbrev pub is_null_or_pointer_to : List ℕ → ℕ → ℕ → Bool
 is_null_or_pointer_to words count word = (word == 0) || is_pointer_to words count word
+
+-- a byte of a text or name that is packed from a place on, eight bytes in a word, the first one lowest
+abbrev pub packed_byte : List ℕ → ℕ → ℕ → ℕ
+packed_byte words place byte = slice_index words (place + byte / 8) / 2 ^ (8 * (byte % 8)) % 256

@@ -39,6 +39,28 @@ pub const OBJECT_WORDS: u32 = 64;
 /// Entries that stand in a transaction object itself: what its four other words leave.
 pub const OBJECT_ENTRIES: u8 = 60;
 
+/// Entries of a segment, which a transaction object gets when its own are used: what the pointer to the next one leaves.
+pub const SEGMENT_ENTRIES: u8 = 255;
+
+/// Words of a block that holds a segment of entries.
+pub const ENTRY_SEGMENT_WORDS: u32 = 256;
+
+/// Segments of entries that an object has at most.
+pub const MAX_ENTRY_SEGMENTS: u32 = 32;
+
+/// Words of a table's block before its columns, and words of a column.
+pub const TABLE_HEAD_WORDS: u32 = 40;
+
+pub const COLUMN_WORDS: u32 = 40;
+
+/// Words of an array's header, of a name.
+pub const HEADER_WORDS: u32 = 16;
+
+pub const NAME_WORDS: u32 = 3;
+
+/// Columns of a table at most.
+pub const MAX_COLUMNS: u8 = 16;
+
 /// Table slots: as many words as four lines have.
 pub const TABLES: u8 = 32;
 

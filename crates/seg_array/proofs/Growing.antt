@@ -18,7 +18,7 @@ use Rattle.heap_palloc.specs.Lane.{mended_lane}
 use Rattle.heap_palloc.specs.Law.{IsElsewhere, Shows, IsHeapPage}
 use Rattle.heap_palloc.proofs.Stages.{place_in-pointer, mended-idle}
 use Rattle.heap_palloc.proofs.LiveBlocks.{SameHeap, live_blocks-same}
-use Rattle.seg_array.specs.Arrays.{chunk_pages, capacity_of, chunk_of, chunk_count, place_of}
+use Rattle.pm_model.specs.Arrays.{chunk_pages, capacity_of, chunk_of, chunk_count, place_of}
 use Rattle.seg_array.specs.Growth.{Growth, next_pointer_at, next_chunk, chunk_block, punches, publishing_parts, growth_parts, MayGrow}
 use Rattle.seg_array.specs.Shown.{IsOutsidePages, KeepsArray, HasChunk, HasNoChunk, IsUngrown, IsGrown}
 use Rattle.seg_array.proofs.Sizes.{capacity_next, chunk_is, chunk_below}

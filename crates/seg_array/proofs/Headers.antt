@@ -7,7 +7,7 @@ use Rattle.pm_model.specs.Places.{below, place_in, is_pointer, is_in_segment, is
 use Rattle.pm_model.specs.Checks.{Check, check, Keeps}
 use Rattle.pm_model.proofs.Heap.{Holds}
 use Rattle.pm_model.proofs.Members.{below-Contains, Contains-here, Contains-there, map-Contains}
-use Rattle.seg_array.specs.Arrays.{chunk_words, capacity_of, chunk_of, offset_of, chunk_count, chunk_pointer_at, is_chunk_pointer, array_rule, capacity}
+use Rattle.pm_model.specs.Arrays.{chunk_words, capacity_of, chunk_of, offset_of, chunk_count, chunk_pointer_at, is_chunk_pointer, array_rule, capacity}
 use Rattle.seg_array.proofs.Sizes.{capacity_next, chunk_below}
 
 -- a chunk's words lie in the image, and in one segment

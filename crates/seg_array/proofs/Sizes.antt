@@ -3,7 +3,7 @@ use Rattle.std.proofs.Common.{◌≡◌, ⊎_elim, ℕ, zero, suc, ◌+◌, ◌-
 use Rattle.std.specs.Prelude.{count_by}
 use Rattle.std.specs.List.{range_with_len}
 use Rattle.std.proofs.lemmas.Bool.{cases_lt, le-leb, lt-leb}
-use Rattle.seg_array.specs.Arrays.{chunk_pages, chunk_words, capacity_of, chunk_of}
+use Rattle.pm_model.specs.Arrays.{chunk_pages, chunk_words, capacity_of, chunk_of}
 
 -- ── counting up to a threshold ──
 

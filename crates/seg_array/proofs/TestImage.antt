@@ -18,7 +18,7 @@ use Rattle.pm_model.proofs.Alone.{may_play-plan}
 use Rattle.pm_model.proofs.FreshImage.{length-fresh_words, get_or-fresh_words}
 use Rattle.pm_model.proofs.Members.{Contains-cons, Contains-map, Contains-filter, Contains-below}
 use Rattle.heap_palloc.specs.Index.{HeapIndex, IsIndexOf}
-use Rattle.seg_array.specs.Arrays.{chunk_words, chunk_count, chunk_pointer_at, is_chunk_pointer, array_rule}
+use Rattle.pm_model.specs.Arrays.{chunk_words, chunk_count, chunk_pointer_at, is_chunk_pointer, array_rule}
 use Rattle.seg_array.specs.Calls.{MayPlanGrowth, IsGrowthPlanned}
 use Rattle.seg_array.specs.TestImage.{test_image}
 use Rattle.seg_array.proofs.Whole.{growth_plan}

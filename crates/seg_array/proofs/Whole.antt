@@ -19,7 +19,7 @@ use Rattle.heap_palloc.specs.Law.{Shows, Allocates, IsOwnerPlace, Pages, pages_a
 use Rattle.heap_palloc.proofs.Stages.{pointer-some}
 use Rattle.heap_palloc.proofs.Changes.{change_settles}
 use Rattle.heap_palloc.proofs.GivenBack.{take_run_plan, take_run_allocates}
-use Rattle.seg_array.specs.Arrays.{chunk_pages, chunk_count}
+use Rattle.pm_model.specs.Arrays.{chunk_pages, chunk_count}
 use Rattle.seg_array.specs.Growth.{Growth, next_pointer_at, next_chunk, chunk_block, allocating_parts, publishing_parts, growth_parts, OwnsChunk, MayGrow}
 use Rattle.seg_array.specs.Shown.{IsUngrown, IsGrown}
 use Rattle.seg_array.proofs.Punches.{punches-part}

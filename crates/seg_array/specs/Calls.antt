@@ -14,7 +14,7 @@ use Rattle.heap_palloc.specs.Index.{HeapIndex, IsIndexOf}
 use Rattle.heap_palloc.specs.Calls.{KeepsHeapRules}
 use Rattle.seg_array.specs.declared.error.GrowError.{GrowError}
 use Rattle.seg_array.specs.declared.error.GrowError.TheVariants.{Full, NoMemory}
-use Rattle.seg_array.specs.Arrays.{chunk_pages, chunk_words, chunk_count, array_rule}
+use Rattle.pm_model.specs.Arrays.{chunk_pages, chunk_words, chunk_count, array_rule}
 use Rattle.seg_array.specs.Growth.{next_pointer_at, next_chunk, allocating_parts, growth_parts, MayGrow}
 
 -- the header lies in a live block

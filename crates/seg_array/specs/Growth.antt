@@ -10,7 +10,7 @@ use Rattle.pm_model.specs.Plans.{Part, one_store}
 use Rattle.pm_model.specs.Blocks.{Block, live_blocks}
 use Rattle.heap_palloc.specs.Parts.{big_allocation_parts}
 use Rattle.heap_palloc.specs.Law.{IsOwnerPlace, IsHeapPage, Pages, pages_allocation, MayTakeRun}
-use Rattle.seg_array.specs.Arrays.{chunk_pages, chunk_count, chunk_pointer_at}
+use Rattle.pm_model.specs.Arrays.{chunk_pages, chunk_count, chunk_pointer_at}
 
 -- through this lane the array with this header grows by the chunk that begins at a page
 pub record Growth : Type 0 where

@@ -1,4 +1,3 @@
-pub mod Arrays
 pub mod Calls
 pub mod Growth
 pub mod Shown

@@ -5,7 +5,7 @@ use Rattle.pm_model.specs.Places.{page_at}
 use Rattle.pm_model.specs.Plans.{finished}
 use Rattle.pm_model.specs.Blocks.{live_blocks}
 use Rattle.heap_palloc.specs.Law.{IsElsewhere}
-use Rattle.seg_array.specs.Arrays.{chunk_pages, capacity_of, chunk_count, capacity, place_of, array_word}
+use Rattle.pm_model.specs.Arrays.{chunk_pages, capacity_of, chunk_count, capacity, place_of, array_word}
 use Rattle.seg_array.specs.Growth.{Growth, next_pointer_at, growth_parts}
 
 -- a word outside so many pages from one on

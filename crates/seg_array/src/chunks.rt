@@ -2,8 +2,8 @@
 ghost use Rattle.std.specs.Prelude.{◌≡◌, ◌+◌, ◌*◌, ◌<◌, ◌≤◌, IsTrue, length, slice_index};
 ghost use Rattle.pm_model.specs.Checks.{Keeps};
 ghost use Rattle.pm_model.specs.Places.{is_pointer, place_in};
-ghost use Rattle.seg_array.specs.Arrays as arrays;
-ghost use Rattle.seg_array.specs.Arrays.{array_rule, capacity_of, chunk_of, chunk_pages, chunk_pointer_at};
+ghost use Rattle.pm_model.specs.Arrays as arrays;
+ghost use Rattle.pm_model.specs.Arrays.{array_rule, capacity_of, chunk_of, chunk_pages, chunk_pointer_at};
 
 use pm_model::{Memory, PAGE_WORDS, PPtr, Place};
 

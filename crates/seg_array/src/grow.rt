@@ -6,7 +6,7 @@ ghost use Rattle.heap_big.specs.declared.run.Run.{Run};
 ghost use Rattle.heap_big.specs.Fit.{TakesBestFit};
 ghost use Rattle.heap_palloc.specs.Index.{IsIndexOf};
 ghost use Rattle.seg_array.specs.declared.error.GrowError.TheVariants.{ArrayFull, Full, NoMemory as OutOfMemory};
-ghost use Rattle.seg_array.specs.Arrays.{chunk_count, chunk_pages};
+ghost use Rattle.pm_model.specs.Arrays.{chunk_count, chunk_pages};
 ghost use Rattle.seg_array.specs.Growth.{next_pointer_at, punches, publishing_parts};
 ghost use Rattle.seg_array.specs.Calls.{MayPlanGrowth, IsGrowthPlanned, IsChunkPlanned};
 
