@@ -10,7 +10,7 @@ use Rattle.pm_model.specs.Fixed.{last_at, state_at, commit_word_at, entry_at}
 use Rattle.pm_model.specs.Plans.{Part, one_store, footprint, finished, EachCut}
 use Rattle.pm_model.proofs.Alone.{length-words_after}
 use Rattle.pm_model.proofs.Cuts.{between-kept, between-start, between-end, cut-one_store, each_cut-unless_empty}
-use Rattle.txn_object.specs.Object.{clear_part}
+use Rattle.stage_object.specs.Object.{clear_part}
 use Rattle.engine_core.specs.Stage.{high_at, born_at, ended_at, value_at}
 use Rattle.engine_core.specs.StagePlans.{commit_early, commit_late, stamp_part}
 use Rattle.engine_core.specs.StageRules.{IsStage}

@@ -13,7 +13,7 @@ use Rattle.pm_model.specs.declared.action.Action.{Action}
 use Rattle.pm_model.specs.Fixed.{last_at, state_at, commit_word_at, entry_at}
 use Rattle.pm_model.specs.Plans.{Part, one_store, words_after, plan_of, store, unless_empty, IsPart, IsPlan}
 use Rattle.pm_model.proofs.Alone.{length-words_after}
-use Rattle.txn_object.specs.Object.{clear_part, entry_clears}
+use Rattle.stage_object.specs.Object.{clear_part, entry_clears}
 use Rattle.engine_core.specs.Stage.{high_at, born_at, ended_at, value_at}
 use Rattle.engine_core.specs.StagePlans.{stamp_part, commit_late, commit_parts, close_parts}
 use Rattle.engine_core.specs.StageRules.{IsStage}

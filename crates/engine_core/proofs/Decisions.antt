@@ -16,7 +16,7 @@ use Rattle.pm_model.specs.Fixed.{last_at, state_at, commit_word_at, entry_at}
 use Rattle.pm_model.specs.Plans.{one_store, words_after, plan_of, finished}
 use Rattle.pm_model.proofs.Alone.{length-words_after}
 use Rattle.txn_object.specs.Entries.{entry_word}
-use Rattle.txn_object.specs.Object.{begin_parts}
+use Rattle.stage_object.specs.Object.{begin_parts}
 use Rattle.engine_core.specs.Stage.{high_at, born_at, ended_at, value_at}
 use Rattle.engine_core.specs.StagePlans.{created_entry, insert_parts}
 use Rattle.engine_core.specs.StageRules.{IsStage, state_word}

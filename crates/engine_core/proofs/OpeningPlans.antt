@@ -19,8 +19,8 @@ use Rattle.pm_model.proofs.Cuts.{finished-append, length-finished, each_cut-star
 use Rattle.pm_model.proofs.PlanLaw.{words_after-kept}
 use Rattle.txn_object.specs.declared.entry.Entry.{Entry}
 use Rattle.txn_object.specs.Entries.{entry_of}
-use Rattle.txn_object.specs.Object.{entries_from, entries_in}
-use Rattle.txn_object.proofs.EntryWords.{entries_from-stop, entries_from-next}
+use Rattle.stage_object.specs.Object.{entries_from, entries_in}
+use Rattle.stage_object.proofs.EntryWords.{entries_from-stop, entries_from-next}
 use Rattle.engine_core.specs.LogicalState.{greatest}
 use Rattle.engine_core.specs.ImageRules.{KeepsEntryRules}
 use Rattle.pm_model.specs.Needed.{needed_stores, needed_parts}

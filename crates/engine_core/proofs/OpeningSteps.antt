@@ -10,7 +10,7 @@ use Rattle.pm_model.proofs.Cuts.{cut-one_store, between-end}
 use Rattle.txn_object.specs.declared.entry.EntryKind.{EntryKind}
 use Rattle.txn_object.specs.declared.entry.EntryKind.TheVariants.{Created, Ended}
 use Rattle.txn_object.specs.Entries.{entry_of}
-use Rattle.txn_object.specs.Object.{entries_in}
+use Rattle.stage_object.specs.Object.{entries_in}
 use Rattle.engine_core.specs.Stage.{high_at, born_at, ended_at}
 use Rattle.engine_core.specs.LogicalState.{commit_count, past_entry}
 use Rattle.engine_core.specs.ImageRules.{dead}

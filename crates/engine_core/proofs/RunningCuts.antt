@@ -9,7 +9,7 @@ use Rattle.pm_model.specs.Fixed.{last_at, state_at, commit_word_at, entry_at}
 use Rattle.pm_model.specs.Plans.{Part, one_store, words_after, footprint, EachCut}
 use Rattle.pm_model.proofs.Alone.{length-words_after}
 use Rattle.pm_model.proofs.Cuts.{between-kept, cut-one_store}
-use Rattle.txn_object.specs.Object.{begin_parts}
+use Rattle.stage_object.specs.Object.{begin_parts}
 use Rattle.txn_object.specs.Entries.{entry_word}
 use Rattle.engine_core.specs.Stage.{high_at, born_at, value_at}
 use Rattle.engine_core.specs.StagePlans.{close_parts, created_entry, insert_parts}

@@ -6,7 +6,7 @@ use Rattle.pm_model.specs.declared.action.Action.{Action}
 use Rattle.pm_model.specs.declared.action.Action.TheVariants.{Store}
 use Rattle.pm_model.specs.declared.place.Place.{Place}
 use Rattle.pm_model.specs.Plans.{store, stores, part_actions}
-use Rattle.txn_object.proofs.Clears.{length-part_actions}
+use Rattle.stage_object.proofs.Clears.{length-part_actions}
 use Rattle.engine_core.specs.Stage.{high_at, born_at}
 use Rattle.engine_core.specs.StagePlans.{stamp_part}
 use Rattle.engine_core.proofs.Stores.{stores-at, length-lines_of, length-run}

@@ -13,7 +13,7 @@ use Rattle.pm_model.specs.Plans.{Part, Play, IsPlaying, IsPlan, EachCut, EachMom
 use Rattle.pm_model.proofs.Alone.{cached-run, length-words_after, IsPlan-size}
 use Rattle.pm_model.proofs.Cuts.{length-finished}
 use Rattle.pm_model.proofs.PlanLaw.{plan_begins, plan_goes_on, plan_survives, moments-each_cut, moments-halves}
-use Rattle.txn_object.specs.Object.{begin_parts}
+use Rattle.stage_object.specs.Object.{begin_parts}
 use Rattle.txn_object.specs.Entries.{entry_word}
 use Rattle.engine_core.specs.Stage.{high_at, value_at}
 use Rattle.engine_core.specs.StagePlans.{close_parts, commit_early, commit_late, commit_parts, created_entry, insert_parts}

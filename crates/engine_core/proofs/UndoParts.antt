@@ -9,8 +9,8 @@ use Rattle.txn_object.specs.declared.entry.Entry.{Entry}
 use Rattle.txn_object.specs.declared.entry.EntryKind.{EntryKind}
 use Rattle.txn_object.specs.declared.entry.EntryKind.TheVariants.{Created, Ended}
 use Rattle.txn_object.specs.Entries.{entry_of}
-use Rattle.txn_object.specs.Object.{entries_from}
-use Rattle.txn_object.proofs.EntryWords.{entries_from-stop, entries_from-next}
+use Rattle.stage_object.specs.Object.{entries_from}
+use Rattle.stage_object.proofs.EntryWords.{entries_from-stop, entries_from-next}
 use Rattle.engine_core.specs.Stage.{born_at, ended_at}
 use Rattle.engine_core.specs.ImageRules.{dead, is_entry, is_entry_word}
 use Rattle.engine_core.specs.Opening.{undo_entry}

@@ -8,7 +8,7 @@ use Rattle.mv_model.specs.State.{State, transaction_of}
 use Rattle.mv_model.specs.View.{next_row_of}
 use Rattle.mv_model.specs.Next.{next}
 use Rattle.pm_model.specs.Plans.{plan_of}
-use Rattle.txn_object.specs.Object.{begin_parts}
+use Rattle.stage_object.specs.Object.{begin_parts}
 use Rattle.engine_core.specs.StagePlans.{close_parts, commit_parts, insert_parts}
 
 -- how many rows the open transaction of session 1 has created

@@ -10,7 +10,7 @@ use Rattle.pm_model.specs.Checks.{Fault, or_else, first_fault}
 use Rattle.txn_object.specs.declared.entry.Entry.{Entry}
 use Rattle.txn_object.specs.declared.entry.EntryKind.{EntryKind}
 use Rattle.txn_object.specs.declared.entry.EntryKind.TheVariants.{Created, Ended}
-use Rattle.txn_object.specs.Object.{entries_in}
+use Rattle.stage_object.specs.Object.{entries_in}
 use Rattle.engine_core.specs.Stage.{high_at, born_at, ended_at}
 use Rattle.engine_core.specs.LogicalState.{greatest, past_entry, commit_count}
 use Rattle.engine_core.specs.ImageRules.{dead, entry_rules, closing_rules}

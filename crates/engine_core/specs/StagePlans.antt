@@ -5,7 +5,7 @@ use Rattle.pm_model.specs.Fixed.{last_at, commit_word_at}
 use Rattle.pm_model.specs.Plans.{Part, one_store, stores}
 use Rattle.txn_object.specs.declared.entry.Entry.{Entry}
 use Rattle.txn_object.specs.declared.entry.EntryKind.TheVariants.{Created}
-use Rattle.txn_object.specs.Object.{entry_part, retire_parts}
+use Rattle.stage_object.specs.Object.{entry_part, retire_parts}
 use Rattle.engine_core.specs.Stage.{high_at, born_at, value_at}
 
 -- the entry of a row that the transaction creates

@@ -13,8 +13,8 @@ use crate::transactions::{Running, Transactions};
 use mv_model::limits::MAX_COMMITS;
 use mv_model::{Call, Reply, Value, Values};
 use pm_model::{Memory, NoMemory, OBJECT_ENTRIES, Plan, last_commit};
+use stage_object::plan_begin;
 use std::alloc::Global;
-use txn_object::plan_begin;
 
 /// A commit that gets its place in the history, and this number, once so many actions of its plan are left.
 #[derive(Clone, Copy, Debug)]

@@ -5,7 +5,7 @@ ghost use Rattle.pm_model.specs.Fixed.{entry_at, last_at, commit_word_at, state_
 ghost use Rattle.pm_model.specs.Device.{IsWhole};
 ghost use Rattle.pm_model.specs.Places.{below};
 ghost use Rattle.pm_model.specs.Plans.{Part, IsPlan, finished, one_store, stores, part_actions, plan_of, unless_empty, at_rest};
-ghost use Rattle.txn_object.specs.Object.{entries_in};
+ghost use Rattle.stage_object.specs.Object.{entries_in};
 ghost use Rattle.engine_core.specs.Stage.{high_at};
 ghost use Rattle.engine_core.specs.LogicalState.{commit_count, of_open, past_entry};
 ghost use Rattle.engine_core.specs.ImageRules.{KeepsEntryRules};

@@ -5,8 +5,9 @@ ghost use Rattle.engine_core.specs.StagePlans.{close_parts, commit_late, commit_
 
 use crate::layout::{born, high, value};
 use pm_model::{Action, NoMemory, Place, Plan, commit_word, last_commit};
+use stage_object::{push_entry, push_retire};
 use std::alloc::Global;
-use txn_object::{Entry, EntryKind, push_entry, push_retire};
+use txn_object::{Entry, EntryKind};
 
 // The actions of a part of one store: the store, a flush and a fence.
 const STORE_ACTIONS: u32 = 3;

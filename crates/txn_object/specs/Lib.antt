@@ -1,4 +1,2 @@
 pub mod EntryListState
 pub mod Entries
-pub mod Object
-pub mod Shown

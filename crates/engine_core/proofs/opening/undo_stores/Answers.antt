@@ -1,7 +1,7 @@
 use Rattle.std.proofs.Common.{◌++◌, ap, arith}
 use Rattle.std.specs.List.{flat_map}
 use Rattle.pm_model.specs.Plans.{Part}
-use Rattle.txn_object.specs.Object.{entries_from, entries_in}
+use Rattle.stage_object.specs.Object.{entries_from, entries_in}
 use Rattle.engine_core.specs.Opening.{undo_entry}
 use Rattle.engine_core.proofs.OpeningPlans.{undo-row, undo-next}
 use Rattle.engine_core.proofs.opening.undo_stores.Goals as goal

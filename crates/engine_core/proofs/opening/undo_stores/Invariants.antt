@@ -1,7 +1,7 @@
 use Rattle.std.proofs.Common.{◌≡◌, ◌≤◌, ◌-◌, ◌++◌}
 use Rattle.std.specs.Prelude.{vec_len, vec_capacity}
 use Rattle.std.specs.List.{flat_map}
-use Rattle.txn_object.specs.Object.{entries_from, entries_in}
+use Rattle.stage_object.specs.Object.{entries_from, entries_in}
 use Rattle.engine_core.specs.Opening.{undo_entry}
 use Rattle.engine_core.proofs.opening.undo_stores.Given as goal
 

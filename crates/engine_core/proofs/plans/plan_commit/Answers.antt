@@ -1,7 +1,7 @@
 use Rattle.std.proofs.Common.{true, length, ap, arith}
 use Rattle.std.proofs.lemmas.List.{length-append}
 use Rattle.pm_model.specs.declared.action.Action.{Action}
-use Rattle.txn_object.proofs.Clears.{length-plan_of-retire}
+use Rattle.stage_object.proofs.Clears.{length-plan_of-retire}
 use Rattle.engine_core.proofs.plans.plan_commit.Goals as goal
 
 pub push_store-requires : goal.push_store-requires

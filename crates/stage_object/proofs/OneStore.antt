@@ -1,0 +1,107 @@
+-- A begin and an entry: what the object shows after the one store that each of them is.
+use Rattle.std.proofs.Common.{◌≡◌, ◌⊎◌, inl, inr, ⊎_elim, ℕ, ◌+◌, ◌/◌, ◌%◌, ◌^◌, ◌<◌, cond, eqb, List, [], ◌∷◌, ◌++◌, set, sym, ◌∙◌, ap, subst, arith}
+use Rattle.std.proofs.lemmas.List.{get_or-set_same, get_or-set_other}
+use Rattle.std.proofs.lemmas.Bool.{cases_eq, cond-true, cond-false, eq-eqb, ne_eqb}
+use Rattle.pm_model.specs.declared.action.Action.{Action}
+use Rattle.pm_model.specs.Device.{Device}
+use Rattle.pm_model.specs.Fixed.{state_at, commit_word_at, entry_at}
+use Rattle.pm_model.specs.Plans.{Play}
+use Rattle.txn_object.specs.declared.entry.Entry.{Entry}
+use Rattle.txn_object.specs.declared.entry.EntryKind.{EntryKind}
+use Rattle.txn_object.specs.declared.entry.EntryKind.TheVariants.{Created, Ended}
+use Rattle.txn_object.specs.Entries.{kind_number, entry_word, entry_of}
+use Rattle.stage_object.specs.Object.{begin_parts, entry_part}
+use Rattle.stage_object.specs.Shown.{Transaction, Shows, HasObject, NoEntryFollowsZero, MayEnter, IsCut}
+use Rattle.stage_object.proofs.EntryWords.{word_at, entries_in-same, entries_in-set, entries_in-append, entries_in-rest}
+use Rattle.stage_object.proofs.Cuts.{cut-one_store, ended-one_store}
+
+-- ── a begin ──
+
+pub begin_after : (object : ℕ) (transaction : Transaction) (base : List ℕ) → HasObject base object → Shows base object transaction → Shows (set base (state_at object) 1) object (record transaction { state = 1 })
+begin_after object transaction base is shows = record {
+  state = get_or-set_same base (state_at object) 1 0 (omega (arith, is.number, is.size));
+  commit_word = get_or-set_other base (state_at object) (commit_word_at object) 1 0 (λ e. omega (arith, e)) ∙ shows.commit_word;
+  entries = entries_in-same base (set base (state_at object) 1) object (λ nth lt. get_or-set_other base (state_at object) (entry_at object nth) 1 0 (λ e. omega (arith, e))) ∙ shows.entries;
+}
+
+pub begin_shows : (object : ℕ) (transaction : Transaction) (play : Play) (left : List Action) (d : Device) (image base : List ℕ) → IsCut play left d image base → play.parts ≡ begin_parts object → HasObject base object → Shows base object transaction
+    → (Shows image object transaction) ⊎ (Shows image object (record transaction { state = 1 }))
+begin_shows object transaction play left d image base cut is has shows = ⊎_elim
+    (λ (old : image ≡ base). inl (subst (λ (l : List ℕ). Shows l object transaction) (sym old) shows))
+    (λ (new : image ≡ set base (state_at object) 1). inr (subst (λ (l : List ℕ). Shows l object (record transaction { state = 1 })) (sym new) (begin_after object transaction base has shows)))
+    (cut-one_store (state_at object) 1 play d image base is left cut)
+
+pub begin_ends : (object : ℕ) (transaction : Transaction) (play : Play) (d : Device) (image base : List ℕ) → IsCut play [] d image base → play.parts ≡ begin_parts object → HasObject base object → Shows base object transaction
+    → Shows image object (record transaction { state = 1 })
+begin_ends object transaction play d image base cut is has shows =
+    subst (λ (l : List ℕ). Shows l object (record transaction { state = 1 })) (sym (ended-one_store (state_at object) 1 play d image base is cut)) (begin_after object transaction base has shows)
+
+-- ── an entry ──
+
+-- the word of an entry spells it
+kind-set : (kind : EntryKind) → kind_number kind ≡ 0 → ⊥
+kind-set Created e = omega (arith, e)
+kind-set Ended e = omega (arith, e)
+
+pub entry_word-set : (entry : Entry) → entry_word entry ≡ 0 → ⊥
+entry_word-set entry e = kind-set entry.kind (omega (arith, e))
+
+kind-spelt : (kind : EntryKind) (n : ℕ) → n ≡ kind_number kind → cond (eqb n 1) Created Ended ≡ kind
+kind-spelt Created n is = cond-true (eqb n 1) Created Ended (eq-eqb n 1 is)
+kind-spelt Ended n is = cond-false (eqb n 1) Created Ended (ne_eqb n 1 (λ e. omega (arith, is, e)))
+
+entry-same : (a b : EntryKind) (t u r s : ℕ) → a ≡ b → t ≡ u → r ≡ s → ◌≡◌ {A = Entry} (record { kind = a; table = t; row = r }) (record { kind = b; table = u; row = s })
+entry-same a b t u r s kinds tables rows = cc
+
+pub entry_of-entry_word : (entry : Entry) → entry.table < 2 ^ 24 → entry.row < 2 ^ 32 → entry_of (entry_word entry) ≡ entry
+entry_of-entry_word entry table row =
+    let word = entry_word entry in
+    let kinds : word / 2 ^ 56 ≡ kind_number entry.kind = omega (arith, table, row) in
+    let tables : word / 2 ^ 32 % 2 ^ 24 ≡ entry.table = omega (arith, table, row) in
+    let rows : word % 2 ^ 32 ≡ entry.row = omega (arith, table, row) in
+    entry-same (cond (eqb (word / 2 ^ 56) 1) Created Ended) entry.kind (word / 2 ^ 32 % 2 ^ 24) entry.table (word % 2 ^ 32) entry.row (kind-spelt entry.kind (word / 2 ^ 56) kinds) tables rows
+
+pub entry_after : (object nth : ℕ) (entry : Entry) (transaction : Transaction) (base : List ℕ) → MayEnter base object nth entry → Shows base object transaction
+    → Shows (set base (entry_at object nth) (entry_word entry)) object (record transaction { entries = transaction.entries ++ entry ∷ [] })
+entry_after object nth entry transaction base may shows =
+    let new = set base (entry_at object nth) (entry_word entry) in record {
+      state = get_or-set_other base (entry_at object nth) (state_at object) (entry_word entry) 0 (λ e. omega (arith, e)) ∙ shows.state;
+      commit_word = get_or-set_other base (entry_at object nth) (commit_word_at object) (entry_word entry) 0 (λ e. omega (arith, e)) ∙ shows.commit_word;
+      entries = entries_in-append base new object nth (entry_word entry) may.count may.room (λ k apart. get_or-set_other base (entry_at object nth) (entry_at object k) (entry_word entry) 0 (λ e. apart (omega (arith, e))))
+          (get_or-set_same base (entry_at object nth) (entry_word entry) 0 (omega (arith, may.is_object.number, may.is_object.size, may.room)))
+          (entry_word-set entry) (λ lt. entries_in-rest base object (nth + 1) may.packed (omega (arith, may.count)) lt)
+          ∙ ap (λ (l : List Entry). l ++ entry_of (entry_word entry) ∷ []) shows.entries
+          ∙ ap (λ (e : Entry). transaction.entries ++ e ∷ []) (entry_of-entry_word entry may.table may.row);
+    }
+
+pub entry_packed : (object nth : ℕ) (entry : Entry) (base : List ℕ) → MayEnter base object nth entry → NoEntryFollowsZero (set base (entry_at object nth) (entry_word entry)) object
+entry_packed object nth entry base may k lt is = ⊎_elim
+    (λ (here : k ≡ nth). absurd (entry_word-set entry (sym put ∙ ap (λ (n : ℕ). word_at (set base (entry_at object nth) (entry_word entry)) object n) (sym here) ∙ is)))
+    (λ apart. ⊎_elim
+    (λ (next : k + 1 ≡ nth). let zero : word_at base object k ≡ 0 = sym (kept k apart) ∙ is in
+    absurd (entries_in-set base object k (omega (arith, next, may.count)) zero))
+    (λ other. kept (k + 1) other ∙ may.packed k lt (sym (kept k apart) ∙ is))
+    (cases_eq (k + 1) nth))
+    (cases_eq k nth)
+  where
+    put : word_at (set base (entry_at object nth) (entry_word entry)) object nth ≡ entry_word entry
+    put = get_or-set_same base (entry_at object nth) (entry_word entry) 0 (omega (arith, may.is_object.number, may.is_object.size, may.room))
+
+    kept : (j : ℕ) → (j ≡ nth → ⊥) → word_at (set base (entry_at object nth) (entry_word entry)) object j ≡ word_at base object j
+    kept j apart = get_or-set_other base (entry_at object nth) (entry_at object j) (entry_word entry) 0 (λ e. apart (omega (arith, e)))
+
+pub entry_shows : (object nth : ℕ) (entry : Entry) (transaction : Transaction) (play : Play) (left : List Action) (d : Device) (image base : List ℕ)
+    → IsCut play left d image base → play.parts ≡ entry_part object nth entry ∷ [] → MayEnter base object nth entry → Shows base object transaction
+    → (Shows image object transaction) ⊎ (Shows image object (record transaction { entries = transaction.entries ++ entry ∷ [] }))
+entry_shows object nth entry transaction play left d image base cut is may shows = ⊎_elim
+    (λ (old : image ≡ base). inl (subst (λ (l : List ℕ). Shows l object transaction) (sym old) shows))
+    (λ (new : image ≡ set base (entry_at object nth) (entry_word entry)).
+    inr (subst (λ (l : List ℕ). Shows l object (record transaction { entries = transaction.entries ++ entry ∷ [] })) (sym new) (entry_after object nth entry transaction base may shows)))
+    (cut-one_store (entry_at object nth) (entry_word entry) play d image base is left cut)
+
+pub entry_ends : (object nth : ℕ) (entry : Entry) (transaction : Transaction) (play : Play) (d : Device) (image base : List ℕ)
+    → IsCut play [] d image base → play.parts ≡ entry_part object nth entry ∷ [] → MayEnter base object nth entry → Shows base object transaction
+    → Shows image object (record transaction { entries = transaction.entries ++ entry ∷ [] })
+entry_ends object nth entry transaction play d image base cut is may shows =
+    subst (λ (l : List ℕ). Shows l object (record transaction { entries = transaction.entries ++ entry ∷ [] })) (sym (ended-one_store (entry_at object nth) (entry_word entry) play d image base is cut))
+    (entry_after object nth entry transaction base may shows)

@@ -1,9 +1,0 @@
-use Rattle.std.proofs.Common.{◌≡◌, ℕ, ◌-◌, ◌∙◌, ap, arith}
-use Rattle.txn_object.specs.Object.{free_among, free_entries_in}
-use Rattle.txn_object.proofs.object.free_entries.Goals as goal
-
-pub returns : goal.returns
-unfolding free_entries_in
-returns g c =
-    let end : c.loop-nth.nth ≡ 60 = omega (arith, c.loop-nth.auto.nth-end, c.loop-nth-test.false) in
-    c.loop-nth.invariant.counted ∙ ap (λ (n : ℕ). free_among (g.M.Memory.device c.args.mem.now).cached (c.args.session - 1) n) end
