@@ -13,6 +13,7 @@ pub mod GivenBack
 pub mod Indexed
 pub mod LiveBlocks
 pub mod Longest
+pub mod Owners
 pub mod PageCalls
 pub mod PageListSteps
 pub mod PagePlans

@@ -56,7 +56,7 @@ pub gained_live : (old new : List Block) (block : Block) → GainsOne old block 
 gained_live old new block gains = subst (λ (xs : List Block). Contains xs block) (sym gains.new_is) (Contains-append_right gains.front (block ∷ gains.back) block (Contains-here block gains.back))
 
 -- a slot lies in its page
-in_one : (page class slot : ℕ) → class < 6 → slot < slots_of class → (other : ℕ) → page_of (slot_at page class slot) < other → page_at other < slot_at page class slot + slot_words class → ⊥
+pub in_one : (page class slot : ℕ) → class < 6 → slot < slots_of class → (other : ℕ) → page_of (slot_at page class slot) < other → page_at other < slot_at page class slot + slot_words class → ⊥
 in_one page class slot class_is slot_is other after before =
     let place = slot_place page class slot class_is slot_is in
     let fits = slot_fits class slot (omega (arith, class_is)) slot_is in

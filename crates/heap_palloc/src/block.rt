@@ -1,6 +1,7 @@
 ghost use Rattle.std.specs.Prelude.{◌≡◌, ◌+◌, ◌*◌, ◌<◌};
 ghost use Rattle.pm_model.specs.Blocks.{slot_at, slot_words, slots_of};
 
+use crate::layout::FIRST_SLOT;
 use heap_small::{Class, class_words};
 use pm_model::{PAGE_WORDS, Place};
 
@@ -10,9 +11,6 @@ pub struct Block {
     pub first: Place,
     pub words: u32,
 }
-
-// The words of a page before its first slot: the bitmap and the rest of its line.
-pub(crate) const FIRST_SLOT: u32 = 8;
 
 /// The block of a slot of a small page.
 pub(crate) fn slot_block(page: u16, class: Class, slot: u8) -> Block

@@ -9,11 +9,9 @@ ghost use Rattle.pm_model.specs.Pointer.{pointer_word};
 ghost use Rattle.heap_palloc.specs.Lane.{is_big_place};
 ghost use Rattle.heap_palloc.specs.Calls.{MayCall, OwnsBlock, IsFreed};
 
-use crate::block::FIRST_SLOT;
 use crate::heap::Heap;
-use crate::parts::{
-    ALLOCATION_ACTIONS, BIG_HEAD, SMALL_PAGE, STORE_ACTIONS, push_freeing, push_store,
-};
+use crate::layout::{BIG_HEAD, FIRST_SLOT, SMALL_PAGE};
+use crate::parts::{ALLOCATION_ACTIONS, STORE_ACTIONS, push_freeing};
 use heap_big::Run;
 use heap_small::{Class, class_words, first_free, without};
 use pm_model::{Memory, NoMemory, PAGE_WORDS, PPtr, Page, Place, Plan, descriptor};
@@ -106,7 +104,7 @@ fn free_slot<M: Memory>(
     push_freeing(&mut plan, lane, dest, first, clear);
     let was_full = first_free(bitmap, class).is_none();
     if clear == 0 {
-        push_store(&mut plan, descriptor(Page(page)), 0);
+        plan.push_store(descriptor(Page(page)), 0);
         give_back_page(heap, class, page, was_full);
     } else if was_full {
         heap.add_room(class, page);

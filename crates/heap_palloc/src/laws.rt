@@ -1,16 +1,16 @@
 // What the plans of the heap keep through each power cut, whatever is played beside them.
-ghost use Rattle.std.specs.Prelude.{IsTrue, ◌≡◌, ◌⊎◌, ℕ, ◌*◌, [], List, length};
+ghost use Rattle.std.specs.Prelude.{Contains, IsTrue, ◌≡◌, ◌≢◌, ◌⊎◌, ℕ, ◌*◌, [], List, length};
 ghost use Rattle.pm_model.specs.declared.action.Action.{Action};
 ghost use Rattle.pm_model.specs.Device.{Device, IsClean};
 ghost use Rattle.pm_model.specs.Plans.{Play, IsPlaying, IsPlan, IsCrashImageWithin, IsTakenBack, finished, footprint, plan_of};
-ghost use Rattle.pm_model.specs.Blocks.{Block, slot_words, bitmap_of};
+ghost use Rattle.pm_model.specs.Blocks.{Block, slot_words, bitmap_of, live_blocks};
 ghost use Rattle.heap_small.specs.Bitmap.{with_bit, without_bit};
 ghost use Rattle.heap_palloc.specs.Lane.{mended_lane};
 ghost use Rattle.heap_palloc.specs.Parts.{Allocation, allocation_parts, freeing_parts, new_page_allocation_parts, big_allocation_parts, small_freeing_parts};
 ghost use Rattle.heap_palloc.specs.Shown.{MayAllocate, MayFree, IsAtomic};
-ghost use Rattle.heap_palloc.specs.Law.{Slot, Shows, ChangesShown, Allocates, Frees, slot_allocation, taking, taken, MayTakeSlot, MayTakeNewSlot, MayFreeSlot, SameRead, Pages, pages_allocation, MayTakeRun, MayFreePages};
+ghost use Rattle.heap_palloc.specs.Law.{IsElsewhere, Slot, Shows, ChangesShown, Allocates, Frees, slot_allocation, taking, taken, MayTakeSlot, MayTakeNewSlot, MayFreeSlot, SameRead, Pages, pages_allocation, MayTakeRun, MayFreePages};
 ghost use Rattle.pm_model.specs.Fresh.{fresh_words};
-ghost use Rattle.heap_palloc.specs.Calls.{KeepsHeapRules};
+ghost use Rattle.heap_palloc.specs.Calls.{KeepsHeapRules, OwnsBlock};
 ghost use Rattle.heap_palloc.specs.Choice.{Choice, choice_allocation, choice_parts, choice_page, choice_pages, choice_block, MayMake, Freed, freed_allocation, freed_parts, freed_page, freed_pages, freed_block, MayRelease};
 
 /// A law for proofs: by words, the log of a lane makes an allocation and a freeing atomic.
@@ -47,6 +47,20 @@ pub fn freeing_law()
     ensures frees { (base : List ℕ) (freed : Freed) → MayRelease base freed →
         Frees (freed_allocation base freed) (freed_page freed) (freed_pages freed) (freed_block freed).words (freed_parts base freed) base }
     ensures rules { (base : List ℕ) (freed : Freed) → KeepsHeapRules base → MayRelease base freed → KeepsHeapRules (finished (freed_parts base freed) base) }
+{}
+
+/// A law for proofs: which words own a block. Once an allocation was played, its owner's word owns the block, where no live
+/// block began before, and once a freeing was played, each other block has its owner still. A word that no plan on these
+/// pages writes owns what it did.
+pub fn owners_law()
+    ensures gives { (base : List ℕ) (choice : Choice) → MayMake base choice → OwnsBlock (finished (choice_parts base choice) base) (choice_allocation base choice).owner (choice_block choice) }
+    ensures new { (base : List ℕ) (choice : Choice) (block : Block) → MayMake base choice → Contains (live_blocks base) block → block.first ≢ (choice_block choice).first }
+    ensures keeps { (base : List ℕ) (choice : Choice) (dest : ℕ) (block : Block) → KeepsHeapRules base → MayMake base choice →
+        IsElsewhere (choice_allocation base choice).lane (choice_allocation base choice).owner (choice_page choice) (choice_pages choice) dest →
+        OwnsBlock base dest block → OwnsBlock (finished (choice_parts base choice) base) dest block }
+    ensures keeps_others { (base : List ℕ) (freed : Freed) (dest : ℕ) (block : Block) → KeepsHeapRules base → MayRelease base freed →
+        IsElsewhere (freed_allocation base freed).lane (freed_allocation base freed).owner (freed_page freed) (freed_pages freed) dest →
+        block.first ≢ (freed_block freed).first → OwnsBlock base dest block → OwnsBlock (finished (freed_parts base freed) base) dest block }
 {}
 
 /// A law for proofs: a formatted image keeps the heap's rules.

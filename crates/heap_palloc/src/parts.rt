@@ -7,6 +7,7 @@ ghost use Rattle.pm_model.specs.Fixed.{lane_at, lane_op_at};
 ghost use Rattle.heap_palloc.specs.Lane.{mark_at};
 ghost use Rattle.heap_palloc.specs.Parts.{Allocation, lane_part, allocation_parts, freeing_parts, new_page_parts, free_page_parts, forget_given_back};
 
+use crate::layout::{ALLOCATING, FREEING, GIVEN_BACK, IDLE, SMALL_PAGE};
 use heap_big::Run;
 use pm_model::{
     Action, Memory, PAGE_WORDS, PPtr, Page, Place, Plan, descriptor, lane_block, lane_dest, lane_op,
@@ -19,24 +20,6 @@ pub(crate) const STORE_ACTIONS: u32 = 3;
 pub(crate) const ALLOCATION_ACTIONS: u32 = 5 + 4 * STORE_ACTIONS;
 
 pub(crate) const NEW_PAGE_ACTIONS: u32 = 2 * STORE_ACTIONS;
-
-/// The head of a big block of n pages has the descriptor `BIG_HEAD` + n, and a small page `SMALL_PAGE` + its class.
-pub(crate) const BIG_HEAD: u64 = 16;
-
-pub(crate) const SMALL_PAGE: u64 = 2;
-
-// A free page that was given back.
-const GIVEN_BACK: u64 = 1;
-
-/// Adds a part of one store.
-pub(crate) fn push_store(plan: &mut Plan, place: Place, value: u64)
-    requires { 3 ≤ plan.old.spare }
-    ensures left { plan.new.left ≡ plan.old.left ++ part_actions (one_store place.0 value) }
-    ensures spare { plan.new.spare + 3 ≡ plan.old.spare }
-{
-    plan.push(Action::Store { place, value });
-    plan.end_part(1);
-}
 
 /// The word that says whether a block is allocated.
 pub(crate) fn mark_of(block: Place) -> Place
@@ -81,10 +64,10 @@ pub(crate) fn push_allocation(plan: &mut Plan, lane: u8, owner: Place, block: Pl
     ensures spare { plan.old.spare ≤ plan.new.spare + 17 }
 {
     push_lane(plan, lane, owner, block);
-    push_store(plan, lane_op(lane), 1);
-    push_store(plan, mark_of(block), marked);
-    push_store(plan, owner, PPtr::of(block).word());
-    push_store(plan, lane_op(lane), 0);
+    plan.push_store(lane_op(lane), ALLOCATING);
+    plan.push_store(mark_of(block), marked);
+    plan.push_store(owner, PPtr::of(block).word());
+    plan.push_store(lane_op(lane), IDLE);
 }
 
 /// Adds a freeing, whose mark becomes `clear`.
@@ -97,10 +80,10 @@ pub(crate) fn push_freeing(plan: &mut Plan, lane: u8, owner: Place, block: Place
     ensures spare { plan.old.spare ≤ plan.new.spare + 17 }
 {
     push_lane(plan, lane, owner, block);
-    push_store(plan, lane_op(lane), 2);
-    push_store(plan, owner, 0);
-    push_store(plan, mark_of(block), clear);
-    push_store(plan, lane_op(lane), 0);
+    plan.push_store(lane_op(lane), FREEING);
+    plan.push_store(owner, 0);
+    plan.push_store(mark_of(block), clear);
+    plan.push_store(lane_op(lane), IDLE);
 }
 
 /// Adds the parts in which a free page becomes a small page.
@@ -111,8 +94,8 @@ pub(crate) fn push_new_page(plan: &mut Plan, page: Page, class: u8)
     ensures left { plan.new.left ≡ plan.old.left ++ plan_of (new_page_parts page.0 class) }
     ensures spare { plan.new.spare + 6 ≡ plan.old.spare }
 {
-    push_store(plan, Place(PAGE_WORDS * u32::from(page.0)), 0);
-    push_store(plan, descriptor(page), SMALL_PAGE + u64::from(class));
+    plan.push_store(Place(PAGE_WORDS * u32::from(page.0)), 0);
+    plan.push_store(descriptor(page), SMALL_PAGE + u64::from(class));
 }
 
 /// Adds the part that stores 0 over the descriptors of those pages of a run that were given back, where there are any.

@@ -7,7 +7,7 @@ ghost use Rattle.heap_palloc.specs.Rising.{IsRising};
 ghost use Rattle.heap_palloc.specs.Index.{IsIndexOf, has_room, rooms_of, pages_with_room};
 
 use crate::heap::Heap;
-use crate::parts::{BIG_HEAD, SMALL_PAGE};
+use crate::layout::{BIG_HEAD, LAST_SMALL_PAGE, SMALL_PAGE};
 use heap_big::Runs;
 use heap_small::{Class, first_free};
 use pm_model::{
@@ -77,7 +77,7 @@ fn scan_segment<M: Memory>(mem: &M, segment: u32, scan: &mut Scan)
 fn is_small(value: u64) -> bool
     ensures { result ≡ says_small value }
 {
-    SMALL_PAGE <= value && value < SMALL_PAGE + 6
+    SMALL_PAGE <= value && value <= LAST_SMALL_PAGE
 }
 
 // How many pages of a big block are left behind a page.

@@ -1,10 +1,10 @@
 // Changes of words, each of which is a part of its own.
 ghost use Rattle.std.specs.Prelude.{◌≡◌, ◌+◌, ◌*◌, ◌<◌, ◌≤◌, ◌++◌, All, length, slice_index};
-ghost use Rattle.pm_model.specs.Plans.{finished, one_store, part_actions, plan_of};
+ghost use Rattle.pm_model.specs.Plans.{finished, plan_of};
 ghost use Rattle.pm_model.specs.Needed.{needed_parts};
 ghost use Rattle.pmem_recover.specs.Changes.{change_parts};
 
-use pm_model::{Action, Memory, Place, Plan};
+use pm_model::{Memory, Place, Plan};
 
 // The actions of a part of one store: the store, a flush and a fence.
 pub(crate) const CHANGE_ACTIONS: u32 = 3;
@@ -25,7 +25,7 @@ pub(crate) fn push_needed<M: Memory>(plan: &mut Plan, mem: &M, changes: &[Change
     for done in 0..changes.len() {
         let change = changes[done];
         if word_after(mem, &changes[..done], change.place) != change.value {
-            push_change(plan, change);
+            plan.push_store(change.place, change.value);
         }
     }
 }
@@ -42,17 +42,4 @@ fn word_after<M: Memory>(mem: &M, changes: &[Change], at: Place) -> u64
         }
     }
     word
-}
-
-// Adds a part of one store.
-fn push_change(plan: &mut Plan, change: Change)
-    requires { 3 ≤ plan.old.spare }
-    ensures left { plan.new.left ≡ plan.old.left ++ part_actions (one_store change.place.0 change.value) }
-    ensures spare { plan.new.spare + 3 ≡ plan.old.spare }
-{
-    plan.push(Action::Store {
-        place: change.place,
-        value: change.value,
-    });
-    plan.end_part(1);
 }

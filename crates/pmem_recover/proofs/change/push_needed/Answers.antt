@@ -9,9 +9,9 @@ loop-done-preserved g c =
     let inv = c.loop-done.invariant in
     elim c.if-word_after-change.branch [
       | then-word_after-change w ↦ record {
-        left = ap (λ plan. plan.left) w.plan-is ∙ pushed c.args.changes.now c.loop-done.done _ c.loop-done-test.true words c.args.plan.now.left c.loop-done.plan.left w.push_change.new.plan.left
-            inv.left (λ e. w.if-word_after-change.true (c.word_after.ensures ∙ e)) w.push_change.ensures.left;
-        room = omega (arith, ap (λ plan. plan.spare) w.plan-is, w.push_change.ensures.spare, inv.room);
+        left = ap (λ plan. plan.left) w.plan-is ∙ pushed c.args.changes.now c.loop-done.done _ c.loop-done-test.true words c.args.plan.now.left c.loop-done.plan.left w.push_store.new.self.left
+            inv.left (λ e. w.if-word_after-change.true (c.word_after.ensures ∙ e)) w.push_store.ensures.left;
+        room = omega (arith, ap (λ plan. plan.spare) w.plan-is, w.push_store.ensures.spare, inv.room);
       }
       | else-word_after-change w ↦ record {
         left = ap (λ plan. plan.left) w.plan-is ∙ passed c.args.changes.now c.loop-done.done _ c.loop-done-test.true words c.args.plan.now.left c.loop-done.plan.left
