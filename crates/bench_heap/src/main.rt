@@ -20,18 +20,16 @@ ghost use Rattle.bench_heap.specs.Uses.{IsOwner, IsInUse, IsAtRest};
 
 use crate::steps::{play_allocation, take_turn};
 use heap_palloc::{AllocError, Heap, NoMemory, reopen};
-use pm_model::{Memory, Place, Plain, fresh, mix};
+use pm_model::{Memory, PAGE_WORDS, Place, Plain, fresh, mix};
 use std::alloc::Global;
 use std::{env, io};
 
 const USAGE: &str = "bench_heap SEGMENTS ROUNDS mixed|turns|holes|device|reopen";
 
-// The owners are the words from this place on, behind the lanes and before the transaction objects and in their pages.
+// The owners are the words of pages 1 to 3 from this place on, behind the lanes: no transaction uses them here.
 const FIRST_OWNER: u32 = 704;
 
 const OWNERS: u64 = 1344;
-
-const PAGE: u32 = 512;
 
 // What each round does.
 #[derive(Clone, Copy)]
@@ -107,11 +105,11 @@ fn make_holes<M: Memory>(alloc: Global, memory: &mut M, heap: &mut Heap) -> Resu
 {
     let mut actions: u64 = 0;
     for number in 0..OWNERS {
-        let played = take_turn(alloc, memory, heap, owner(number), PAGE)?;
+        let played = take_turn(alloc, memory, heap, owner(number), PAGE_WORDS)?;
         actions = actions.wrapping_add(u64::from(played));
     }
     for number in 0..OWNERS / 2 {
-        let played = take_turn(alloc, memory, heap, owner(2 * number), PAGE)?;
+        let played = take_turn(alloc, memory, heap, owner(2 * number), PAGE_WORDS)?;
         actions = actions.wrapping_add(u64::from(played));
     }
     Ok(actions)
@@ -125,7 +123,7 @@ fn turn(work: Work, round: u64) -> (Place, u32)
 {
     let number = mix(round);
     match work {
-        Work::Holes => (owner(0), 2 * PAGE),
+        Work::Holes => (owner(0), 2 * PAGE_WORDS),
         Work::Turns => (owner(round), mixed_words(number)),
         _ => (owner(number / 65_536), mixed_words(number)),
     }
