@@ -68,12 +68,12 @@ less_live old new one block gains has apart = subst (λ (xs : List Block). Conta
 
 -- ── an allocation ──
 
-choice_idle : (base : List ℕ) (choice : Choice) → MayMake base choice → IsIdle base (choice_allocation base choice).lane (choice_allocation base choice).owner
+pub choice_idle : (base : List ℕ) (choice : Choice) → MayMake base choice → IsIdle base (choice_allocation base choice).lane (choice_allocation base choice).owner
 choice_idle base (in_page s) may = may.idle
 choice_idle base (on_new_page s) may = may.idle
 choice_idle base (in_run r) may = may.idle
 
-choice_heap : (base : List ℕ) (choice : Choice) → MayMake base choice → IsHeapPage base (choice_page choice)
+pub choice_heap : (base : List ℕ) (choice : Choice) → MayMake base choice → IsHeapPage base (choice_page choice)
 choice_heap base (in_page s) may = may.page_is.page_is
 choice_heap base (on_new_page s) may = may.page_is
 choice_heap base (in_run r) may = may.run.page_is
@@ -194,11 +194,11 @@ allocation_new base (in_run r) block may live =
 
 -- ── a freeing ──
 
-freed_idle : (base : List ℕ) (freed : Freed) → MayRelease base freed → IsIdle base (freed_allocation base freed).lane (freed_allocation base freed).owner
+pub freed_idle : (base : List ℕ) (freed : Freed) → MayRelease base freed → IsIdle base (freed_allocation base freed).lane (freed_allocation base freed).owner
 freed_idle base (of_slot s) may = may.idle
 freed_idle base (of_pages r) may = may.idle
 
-freed_heap : (base : List ℕ) (freed : Freed) → MayRelease base freed → IsHeapPage base (freed_page freed)
+pub freed_heap : (base : List ℕ) (freed : Freed) → MayRelease base freed → IsHeapPage base (freed_page freed)
 freed_heap base (of_slot s) may = may.page_is.page_is
 freed_heap base (of_pages r) may = may.run.page_is
 
