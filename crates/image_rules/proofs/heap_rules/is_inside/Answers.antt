@@ -1,7 +1,7 @@
 use Rattle.std.proofs.Common.{◌≡◌, ℕ, ◌*◌, ◌/◌, ◌%◌, sym, ◌∙◌, ap, arith}
 use Rattle.pm_model.specs.Blocks.{inside_at}
-use Rattle.pmem_recover.proofs.HeapChecks.{inside-is, inside-step}
-use Rattle.pmem_recover.proofs.heap_rules.is_inside.Goals as goal
+use Rattle.image_rules.proofs.HeapChecks.{inside-is, inside-step}
+use Rattle.image_rules.proofs.heap_rules.is_inside.Goals as goal
 
 pub loop-before-init : goal.loop-before-init
 loop-before-init c =

@@ -1,8 +1,8 @@
 use Rattle.std.proofs.Common.{sym, ◌∙◌, arith}
 use Rattle.std.proofs.lemmas.Bool.{both_ways}
-use Rattle.pmem_recover.proofs.HeapChecks.{reserved_none, reserved_some, reserved_more}
-use Rattle.pmem_recover.proofs.heap_rules.reserved_fault.Goals as goal
-use Rattle.pmem_recover.proofs.heap_rules.reserved_fault.Goals.{else-is_reserved-via-then-is_reserved+else-words-place-ne-RESERVED, else-is_reserved-via-else-is_reserved}
+use Rattle.image_rules.proofs.HeapChecks.{reserved_none, reserved_some, reserved_more}
+use Rattle.image_rules.proofs.heap_rules.reserved_fault.Goals as goal
+use Rattle.image_rules.proofs.heap_rules.reserved_fault.Goals.{else-is_reserved-via-then-is_reserved+else-words-place-ne-RESERVED, else-is_reserved-via-else-is_reserved}
 
 pub loop-page-preserved : goal.loop-page-preserved
 loop-page-preserved c =

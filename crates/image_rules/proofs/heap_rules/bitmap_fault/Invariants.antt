@@ -1,6 +1,6 @@
 use Rattle.std.proofs.Common.{◌≡◌, ℕ, ◌/◌, ◌%◌, ◌^◌, ◌<◌, true, ltb}
 use Rattle.pm_model.specs.Blocks.{inside_at, slots_of, is_small_page, class_of, bitmap_of}
-use Rattle.pmem_recover.proofs.heap_rules.bitmap_fault.Given as goal
+use Rattle.image_rules.proofs.heap_rules.bitmap_fault.Given as goal
 
 abbrev pub invariant-loop-page : goal.invariant-loop-page
 invariant-loop-page l =

@@ -1,8 +1,8 @@
 use Rattle.std.proofs.Common.{sym, ◌∙◌, arith}
 use Rattle.std.proofs.lemmas.Bool.{both_ways}
-use Rattle.pmem_recover.proofs.HeapChecks.{outside, within, inside-step, bitmaps_none, bitmaps_some, bitmaps_more}
-use Rattle.pmem_recover.proofs.heap_rules.bitmap_fault.Goals as goal
-use Rattle.pmem_recover.proofs.heap_rules.bitmap_fault.Goals.{else-inside-eq0-via-then-inside-eq0+then-says_small+else-not-fits_class, else-inside-eq0-via-then-inside-eq0+else-says_small, else-inside-eq0-via-else-inside-eq0}
+use Rattle.image_rules.proofs.HeapChecks.{outside, within, inside-step, bitmaps_none, bitmaps_some, bitmaps_more}
+use Rattle.image_rules.proofs.heap_rules.bitmap_fault.Goals as goal
+use Rattle.image_rules.proofs.heap_rules.bitmap_fault.Goals.{else-inside-eq0-via-then-inside-eq0+then-says_small+else-not-fits_class, else-inside-eq0-via-then-inside-eq0+else-says_small, else-inside-eq0-via-else-inside-eq0}
 
 pub loop-page-preserved : goal.loop-page-preserved
 loop-page-preserved c = record {

@@ -2,7 +2,7 @@ use Rattle.std.proofs.Common.{◌≡◌, ℕ, ◌/◌, ◌%◌, ◌<◌, true, n
 use Rattle.pm_model.specs.Fixed.{descriptor_at}
 use Rattle.pm_model.specs.Blocks.{inside_at, is_inside, is_reserved}
 use Rattle.pm_model.specs.HeapRules.{is_descriptor}
-use Rattle.pmem_recover.proofs.heap_rules.descriptor_fault.Given as goal
+use Rattle.image_rules.proofs.heap_rules.descriptor_fault.Given as goal
 
 abbrev pub invariant-loop-page : goal.invariant-loop-page
 invariant-loop-page l =

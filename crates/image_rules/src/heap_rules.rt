@@ -10,7 +10,7 @@ use heap_small::{Class, slots};
 use pm_model::{PAGE_WORDS, Page, RESERVED, SEGMENT_PAGES, descriptor};
 
 /// The first reserved page whose descriptor says otherwise: its descriptor's place.
-pub(crate) fn reserved_fault(words: &[u64]) -> Option<u32>
+pub fn reserved_fault(words: &[u64]) -> Option<u32>
     requires { length words.now ≤ 4194304 }
     ensures { result ≡ first_failing (reserved_rule words.now) }
 {
@@ -24,7 +24,7 @@ pub(crate) fn reserved_fault(words: &[u64]) -> Option<u32>
 }
 
 /// The first other page, not inside a big block, whose descriptor is none: its descriptor's place.
-pub(crate) fn descriptor_fault(words: &[u64]) -> Option<u32>
+pub fn descriptor_fault(words: &[u64]) -> Option<u32>
     requires { length words.now ≤ 4194304 }
     ensures { result ≡ first_failing (descriptor_rule words.now) }
 {
@@ -41,7 +41,7 @@ pub(crate) fn descriptor_fault(words: &[u64]) -> Option<u32>
 }
 
 /// The first small page whose bitmap has a bit at or above its slots: its bitmap's place.
-pub(crate) fn bitmap_fault(words: &[u64]) -> Option<u32>
+pub fn bitmap_fault(words: &[u64]) -> Option<u32>
     requires { length words.now ≤ 4194304 }
     ensures { result ≡ first_failing (bitmap_rule words.now) }
 {
@@ -58,7 +58,7 @@ pub(crate) fn bitmap_fault(words: &[u64]) -> Option<u32>
 }
 
 /// Whether a page is a small page. It reads the descriptors of its segment up to its own.
-pub(crate) fn is_small_page(words: &[u64], page: u32) -> bool
+pub fn is_small_page(words: &[u64], page: u32) -> bool
     requires in_image { 512 * page < length words.now }
     requires most { length words.now ≤ 4194304 }
     ensures { result ≡ page_is_small words.now page }

@@ -1,6 +1,6 @@
 use Rattle.std.proofs.Common.{sym, ◌∙◌, arith}
-use Rattle.pmem_recover.proofs.LaneChecks.{lanes_none, lanes_some, lanes_more}
-use Rattle.pmem_recover.proofs.lane_rules.lane_fault.Goals as goal
+use Rattle.image_rules.proofs.LaneChecks.{lanes_none, lanes_some, lanes_more}
+use Rattle.image_rules.proofs.lane_rules.lane_fault.Goals as goal
 
 pub loop-lane-preserved : goal.loop-lane-preserved
 loop-lane-preserved c = lanes_more c.args.words.now c.loop-lane.lane c.loop-lane.invariant (sym c.is_lane.ensures ∙ c.if-not-is_lane.false)

@@ -1,8 +1,8 @@
 use Rattle.std.proofs.Common.{sym, ◌∙◌, arith}
 use Rattle.std.proofs.lemmas.Bool.{both_ways}
-use Rattle.pmem_recover.proofs.HeapChecks.{outside, within, inside-step, descriptors_none, descriptors_some, descriptors_more}
-use Rattle.pmem_recover.proofs.heap_rules.descriptor_fault.Goals as goal
-use Rattle.pmem_recover.proofs.heap_rules.descriptor_fault.Goals.{else-inside-eq0-via-then-inside-eq0+then-not-is_reserved+else-not-is_descriptor, else-inside-eq0-via-then-inside-eq0+else-not-is_reserved, else-inside-eq0-via-else-inside-eq0}
+use Rattle.image_rules.proofs.HeapChecks.{outside, within, inside-step, descriptors_none, descriptors_some, descriptors_more}
+use Rattle.image_rules.proofs.heap_rules.descriptor_fault.Goals as goal
+use Rattle.image_rules.proofs.heap_rules.descriptor_fault.Goals.{else-inside-eq0-via-then-inside-eq0+then-not-is_reserved+else-not-is_descriptor, else-inside-eq0-via-then-inside-eq0+else-not-is_reserved, else-inside-eq0-via-else-inside-eq0}
 
 pub loop-page-preserved : goal.loop-page-preserved
 loop-page-preserved c = record {

@@ -7,7 +7,7 @@ use Rattle.pm_model.specs.Places.{page_at, page_count}
 use Rattle.pm_model.specs.Blocks.{slots_of, descriptor_of, says_small, inside_after, inside_at, is_inside, is_small_page, is_reserved, class_of, bitmap_of}
 use Rattle.pm_model.specs.Checks.{first_failing}
 use Rattle.pm_model.specs.HeapRules.{reserved_rule, descriptor_rule, bitmap_rule, is_descriptor}
-use Rattle.pmem_recover.proofs.Faults.{first_none, first_some, each_more, inside-next}
+use Rattle.image_rules.proofs.Faults.{first_none, first_some, each_more, inside-next}
 
 -- ── whether a page stands inside a big block ──
 

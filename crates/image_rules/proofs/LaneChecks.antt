@@ -5,7 +5,7 @@ use Rattle.pm_model.specs.Fixed.{lane_op_at}
 use Rattle.pm_model.specs.Places.{below}
 use Rattle.pm_model.specs.Checks.{check, first_failing}
 use Rattle.pm_model.specs.HeapRules.{lane_rule, is_lane}
-use Rattle.pmem_recover.proofs.Faults.{first_none, first_some, each_more, filter-all}
+use Rattle.image_rules.proofs.Faults.{first_none, first_some, each_more, filter-all}
 
 module _ (words : List ℕ) where
   abbrev pub LanesBelow : ℕ → Type 0

@@ -1,0 +1,5 @@
+pub mod Faults
+pub mod Firsts
+pub mod HeapChecks
+pub mod LaneChecks
+pub mod ObjectChecks
