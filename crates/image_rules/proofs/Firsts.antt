@@ -90,7 +90,7 @@ module _ (f : ℕ → Check) where
 
   -- where all of them hold, each does
   pub map_holds : (n : ℕ) → All Holds (map f (below n)) → (k : ℕ) → k < n → (f k).holds ≡ true
-  map_holds n all k lt = subst (λ (c : Check). c.holds ≡ true) (get_or-map-range_with_len f 0 n k k (f k) lt refl) (all k (f k) (rw (length-map-range_with_len f 0 n) lt))
+  map_holds n all k lt = subst (λ (c : Check). c.holds ≡ true) (get_or-map-range_with_len f 0 n k k (f k) lt (omega arith)) (all k (f k) (rw (length-map-range_with_len f 0 n) lt))
 
 -- checks of those that pass a test
 pub flat_map-filter : {X A : Type 0} (f : X → List A) (test : X → Bool) (xs : List X) → flat_map f (filter test xs) ≡ flat_map (λ x. cond (test x) (f x) []) xs
