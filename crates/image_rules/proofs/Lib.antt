@@ -3,3 +3,4 @@ pub mod Firsts
 pub mod HeapChecks
 pub mod LaneChecks
 pub mod ObjectChecks
+pub mod TableChecks

@@ -11,6 +11,7 @@ mod lane_rules;
 mod layout;
 mod object_rules;
 mod pointers;
+mod table_rules;
 
 pub use first_words::{last_fault, magic_fault, version_fault};
 pub use heap_rules::{bitmap_fault, descriptor_fault, is_small_page, reserved_fault};
@@ -18,3 +19,6 @@ pub use lane_rules::lane_fault;
 pub use layout::{ALLOCATING, FIRST_SLOT, IDLE, SMALL_PAGE};
 pub use object_rules::objects_fault;
 pub use pointers::{is_block_pointer, is_null_or_words, pointed_place, pointed_words};
+pub use table_rules::{
+    columns_of, published_tables, table_block, table_count_fault, table_slot_fault,
+};
