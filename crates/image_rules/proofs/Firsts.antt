@@ -1,12 +1,12 @@
 -- The first check that fails among checks that are put together.
-use Rattle.std.proofs.Common.{◌≡◌, ⊎_elim, ℕ, zero, suc, ◌+◌, ◌<◌, ◌≤◌, Bool, true, false, not, cond, List, [], ◌∷◌, ◌++◌, map, refl, sym, ◌∙◌, ap, subst, arith}
+use Rattle.std.proofs.Common.{◌≡◌, ⊎_elim, ℕ, zero, suc, ◌+◌, ◌<◌, ◌≤◌, Bool, true, false, not, cond, List, [], ◌∷◌, ◌++◌, map, refl, sym, ◌∙◌, ap, subst, append-nil, arith}
 use Rattle.std.specs.Prelude.{Option, None, Some, filter, All}
 use Rattle.std.specs.Option.{is_some}
 use Rattle.std.specs.Bool.{then_some}
 use Rattle.std.specs.List.{range_with_len, flat_map}
 use Rattle.std.proofs.lemmas.Bool.{cases_Bool, cases_eq, true≢false, false≢true}
 use Rattle.std.proofs.lemmas.Option.{none-some}
-use Rattle.std.proofs.lemmas.List.Concat.{flat_map_single}
+use Rattle.std.proofs.lemmas.List.Concat.{flat_map_single, flat_map-append}
 use Rattle.std.proofs.lemmas.List.FromFn.{length-map-range_with_len, get_or-map-range_with_len}
 use Rattle.pm_model.specs.Places.{below}
 use Rattle.pm_model.specs.Checks.{Check, check, first_failing}
@@ -36,6 +36,18 @@ fail-first (c ∷ xs) ys p some =
     ⊎_elim (λ hit. passes c (xs ++ ys) hit ∙ fail-first xs ys p (sym (passes c xs hit) ∙ some))
     (λ miss. fails c (xs ++ ys) miss ∙ sym (fails c xs miss) ∙ some)
     (cases_Bool c.holds)
+
+-- what was found in the first ones, or else in the others
+pub first_of : (xs ys : List Check) (found : Option ℕ) → found ≡ first_failing xs → is_some found ≡ true → found ≡ first_failing (xs ++ ys)
+first_of xs ys None here some = absurd (false≢true some)
+first_of xs ys (Some p) here some = sym (fail-first xs ys p (sym here))
+
+pub then_rest : (xs ys : List Check) (found rest : Option ℕ) → found ≡ first_failing xs → is_some found ≡ false → rest ≡ first_failing ys → rest ≡ first_failing (xs ++ ys)
+then_rest xs ys None rest here none after = after ∙ sym (pass-all xs ys (sym here))
+then_rest xs ys (Some p) rest here none after = absurd (true≢false none)
+
+pub then_last : (xs : List Check) (found : Option ℕ) → found ≡ first_failing xs → found ≡ first_failing (xs ++ [])
+then_last xs found here = here ∙ ap first_failing (sym (append-nil xs))
 
 -- ── checks for each number below a bound ──
 
@@ -99,3 +111,8 @@ flat_map-filter f test (x ∷ xs) =
     ⊎_elim (λ (hit : test x ≡ true). rw hit (ap (λ (ys : List _). f x ++ ys) (flat_map-filter f test xs)))
     (λ (miss : test x ≡ false). rw miss (flat_map-filter f test xs))
     (cases_Bool (test x))
+
+-- checks of the parts of parts
+pub flat_map-flat_map : {X Y A : Type 0} (h : Y → List A) (g : X → List Y) (xs : List X) → flat_map h (flat_map g xs) ≡ flat_map (λ x. flat_map h (g x)) xs
+flat_map-flat_map h g [] = refl
+flat_map-flat_map h g (x ∷ xs) = flat_map-append h (g x) (flat_map g xs) ∙ ap (λ (ys : List _). flat_map h (g x) ++ ys) (flat_map-flat_map h g xs)

@@ -4,3 +4,5 @@ pub mod HeapChecks
 pub mod LaneChecks
 pub mod ObjectChecks
 pub mod TableChecks
+pub mod ArrayChecks
+pub mod Capacities

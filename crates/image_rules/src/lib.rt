@@ -5,6 +5,7 @@
 //! - `pointed_place`, `pointed_words` and `is_block_pointer` say what a word points to.
 #![tactic(auto)]
 
+mod array_rules;
 mod first_words;
 mod heap_rules;
 mod lane_rules;
@@ -13,6 +14,7 @@ mod object_rules;
 mod pointers;
 mod table_rules;
 
+pub use array_rules::{arrays_fault, capacity, chunk_words};
 pub use first_words::{last_fault, magic_fault, version_fault};
 pub use heap_rules::{bitmap_fault, descriptor_fault, is_small_page, reserved_fault};
 pub use lane_rules::lane_fault;
