@@ -6,3 +6,4 @@ pub mod ObjectChecks
 pub mod TableChecks
 pub mod ArrayChecks
 pub mod Capacities
+pub mod NameChecks

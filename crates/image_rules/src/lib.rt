@@ -10,6 +10,7 @@ mod first_words;
 mod heap_rules;
 mod lane_rules;
 mod layout;
+mod name_rules;
 mod object_rules;
 mod pointers;
 mod table_rules;
@@ -19,6 +20,7 @@ pub use first_words::{last_fault, magic_fault, version_fault};
 pub use heap_rules::{bitmap_fault, descriptor_fault, is_small_page, reserved_fault};
 pub use lane_rules::lane_fault;
 pub use layout::{ALLOCATING, FIRST_SLOT, IDLE, SMALL_PAGE};
+pub use name_rules::name_fault;
 pub use object_rules::objects_fault;
 pub use pointers::{is_block_pointer, is_null_or_words, pointed_place, pointed_words};
 pub use table_rules::{
