@@ -1,7 +1,4 @@
 pub mod Changes
 pub mod LaneChanges
 pub mod Mending
-pub mod Faults
-pub mod HeapChecks
-pub mod LaneChecks
 pub mod FirstFault

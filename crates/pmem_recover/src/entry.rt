@@ -1,21 +1,19 @@
 // The rules of every image that a power cut can leave, tried before it is opened.
 ghost use Rattle.std.specs.Prelude.{◌≡◌, ◌⊎◌, ℕ, ◌%◌, ◌≤◌, None, Some, IfOk, IfErr, length};
-ghost use Rattle.pm_model.specs.Checks.{first_failing, first_fault};
+ghost use Rattle.pm_model.specs.Checks.{first_fault};
 ghost use Rattle.pmem_recover.specs.declared.error.EntryError.TheVariants.{BadImage, NoMemory as OutOfMemory};
-ghost use Rattle.pmem_recover.specs.EntryRules.{entry_rules, magic_rule, version_rule, last_rule};
+ghost use Rattle.pmem_recover.specs.EntryRules.{entry_rules};
 
 use crate::error::EntryError;
-use crate::heap_rules::{bitmap_fault, descriptor_fault, reserved_fault};
-use crate::lane_rules::lane_fault;
-use pm_model::{MAGIC, VERSION, last_commit, magic, version};
+use image_rules::{
+    bitmap_fault, descriptor_fault, lane_fault, last_fault, magic_fault, objects_fault,
+    reserved_fault, version_fault,
+};
 use std::alloc::Global;
 
-// Commit numbers are below 2^40.
-const MAX_COMMITS: u64 = (1 << 40) - 1;
-
 /// Tries the rules of every image that a power cut can leave, in the order of their numbers: 1 to 3 on the first words,
-/// 5 to 7 on the heap and 8 on the lanes. An error names the first rule that the words break, and the place where they
-/// do.
+/// 5 to 7 on the heap, 8 on the lanes and 14 on the transaction objects. An error names the first rule that the words
+/// break, and the place where they do.
 pub fn check_entry(_alloc: Global, words: &[u64]) -> Result<(), EntryError>
     requires segments { length words.now % 32768 ≡ 0 }
     requires one_or_more { 32768 ≤ length words.now }
@@ -30,7 +28,8 @@ pub fn check_entry(_alloc: Global, words: &[u64]) -> Result<(), EntryError>
     refuse(5, reserved_fault(words))?;
     refuse(6, descriptor_fault(words))?;
     refuse(7, bitmap_fault(words))?;
-    refuse(8, lane_fault(words))
+    refuse(8, lane_fault(words))?;
+    refuse(14, objects_fault(words))
 }
 
 // Refuses an image that breaks a rule at this place.
@@ -42,28 +41,4 @@ fn refuse(rule: u8, fault: Option<u32>) -> Result<(), EntryError>
         Some(place) => Err(EntryError::BadImage { rule, place }),
         None => Ok(()),
     }
-}
-
-fn magic_fault(words: &[u64]) -> Option<u32>
-    requires { 32768 ≤ length words.now }
-    ensures { result ≡ first_failing (magic_rule words.now) }
-{
-    let place = magic().0;
-    (words[place as usize] != MAGIC).then_some(place)
-}
-
-fn version_fault(words: &[u64]) -> Option<u32>
-    requires { 32768 ≤ length words.now }
-    ensures { result ≡ first_failing (version_rule words.now) }
-{
-    let place = version().0;
-    (words[place as usize] != VERSION).then_some(place)
-}
-
-fn last_fault(words: &[u64]) -> Option<u32>
-    requires { 32768 ≤ length words.now }
-    ensures { result ≡ first_failing (last_rule words.now) }
-{
-    let place = last_commit().0;
-    (words[place as usize] > MAX_COMMITS).then_some(place)
 }

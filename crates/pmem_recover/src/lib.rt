@@ -8,8 +8,6 @@
 mod change;
 mod entry;
 mod error;
-mod heap_rules;
-mod lane_rules;
 mod lanes;
 mod laws;
 mod layout;

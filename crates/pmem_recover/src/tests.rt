@@ -6,18 +6,18 @@ use std::alloc::Global;
 use std::process::Abort;
 use std::test::Fail;
 
-// Checks a formatted image of one segment in which two words were changed.
+// Checks a formatted image of one segment in which words were changed.
 fn check_changed(
     rt: &impl Abort,
     alloc: Global,
-    first: (usize, u64),
-    second: (usize, u64),
+    changes: &[(usize, u64)],
 ) -> Result<Result<(), EntryError>, NoMemory> {
     let mut words = fresh(alloc, 1)?;
-    assert!(rt; first.0 < 32768);
-    assert!(rt; second.0 < 32768);
-    words[first.0] = first.1;
-    words[second.0] = second.1;
+    for (place, value) in changes {
+        assert!(rt; *place < words.len());
+        words[*place] = *value;
+    }
+    assert_eq!(rt; words.len(), 32768);
     Ok(check_entry(alloc, &words))
 }
 
@@ -25,26 +25,54 @@ fn broken(rule: u8, place: u32) -> Result<(), EntryError> {
     Err(EntryError::BadImage { rule, place })
 }
 
+// The pointer to page 4, and to the last place of the image from which 256 words lie in its segment.
+const FIRST_SEGMENT: u64 = 4_294_969_344;
+
+const LAST_SEGMENT: u64 = 4_294_999_808;
+
 #[test]
 fn the_first_broken_rule_is_told(rt: HostRuntime) -> Result<(), Fail> {
-    let same = (1000, 0);
-    for (first, second, told) in [
-        (same, same, Ok(())),
-        ((512, 0), same, broken(1, 512)),
-        ((513, 2), same, broken(2, 513)),
-        ((514, 1 << 40), same, broken(3, 514)),
-        ((514, (1 << 40) - 1), same, Ok(())),
-        ((0, 0), same, broken(5, 0)),
-        ((5, 8), same, broken(6, 5)),
-        ((5, 16 + 62), same, broken(6, 5)),
-        ((5, 16 + 59), same, Ok(())),
-        ((5, 2), (2560, 1 << 63), broken(7, 2560)),
-        ((5, 2), (2560, (1 << 63) - 1), Ok(())),
-        ((576, 3), same, broken(8, 576)),
-        ((696, 1), same, broken(8, 696)),
-        ((5, 8), (0, 0), broken(5, 0)),
-    ] {
-        assert_eq!(rt; check_changed(&rt, rt.alloc(), first, second)?, told);
+    let cases: [(&[(usize, u64)], Result<(), EntryError>); 28] = [
+        (&[], Ok(())),
+        (&[(512, 0)], broken(1, 512)),
+        (&[(513, 2)], broken(2, 513)),
+        (&[(514, 1 << 40)], broken(3, 514)),
+        (&[(514, (1 << 40) - 1)], Ok(())),
+        (&[(0, 0)], broken(5, 0)),
+        (&[(5, 8)], broken(6, 5)),
+        (&[(5, 16 + 62)], broken(6, 5)),
+        (&[(5, 16 + 59)], Ok(())),
+        (&[(5, 2), (2560, 1 << 63)], broken(7, 2560)),
+        (&[(5, 2), (2560, (1 << 63) - 1)], Ok(())),
+        (&[(576, 3)], broken(8, 576)),
+        (&[(696, 1)], broken(8, 696)),
+        (&[(5, 8), (0, 0)], broken(5, 0)),
+        (&[(1024, 2)], broken(14, 1024)),
+        (&[(1984, 2)], broken(14, 1984)),
+        (&[(1985, 1)], Ok(())),
+        (&[(1985, 2)], broken(14, 1985)),
+        (&[(514, (1 << 40) - 1), (1985, (1 << 40) - 1)], Ok(())),
+        (&[(514, (1 << 40) - 1), (1985, 1 << 40)], broken(14, 1985)),
+        (&[(1986, 33)], broken(14, 1986)),
+        (&[(1987, 1)], broken(14, 1987)),
+        (&[(1987, LAST_SEGMENT)], Ok(())),
+        (&[(1987, LAST_SEGMENT + 1)], broken(14, 1987)),
+        (&[(1986, 1), (1987, LAST_SEGMENT)], Ok(())),
+        (
+            &[(1986, 1), (1987, LAST_SEGMENT), (32512, 1)],
+            broken(14, 32512),
+        ),
+        (
+            &[(1986, 2), (1987, FIRST_SEGMENT), (2048, LAST_SEGMENT)],
+            Ok(()),
+        ),
+        (
+            &[(1986, 2), (1987, FIRST_SEGMENT), (2048, FIRST_SEGMENT)],
+            broken(14, 2048),
+        ),
+    ];
+    for (changes, told) in cases {
+        assert_eq!(rt; check_changed(&rt, rt.alloc(), changes)?, told);
     }
     Ok(())
 }

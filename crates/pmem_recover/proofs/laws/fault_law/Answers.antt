@@ -1,8 +1,9 @@
-use Rattle.pmem_recover.proofs.FirstFault.{none-kept, kept-none, entry-lanes}
+use Rattle.pm_model.proofs.Faults.{no_fault}
+use Rattle.pmem_recover.proofs.FirstFault.{entry-lanes}
 use Rattle.pmem_recover.proofs.laws.fault_law.Goals as goal
 
 pub returns : goal.returns
 returns c = record {
-  none = λ rules words. (none-kept rules words, kept-none rules words);
+  none = no_fault;
   lanes = entry-lanes;
 }

@@ -1,0 +1,118 @@
+-- The first check that fails among checks that are put together.
+use Rattle.std.proofs.Common.{◌≡◌, ⊎_elim, ℕ, zero, suc, ◌+◌, ◌<◌, ◌≤◌, Bool, true, false, not, cond, List, [], ◌∷◌, ◌++◌, map, refl, sym, ◌∙◌, ap, subst, append-nil, arith}
+use Rattle.std.specs.Prelude.{Option, None, Some, filter, All}
+use Rattle.std.specs.Option.{is_some}
+use Rattle.std.specs.Bool.{then_some}
+use Rattle.std.specs.List.{range_with_len, flat_map}
+use Rattle.std.proofs.lemmas.Bool.{cases_Bool, cases_eq, true≢false, false≢true}
+use Rattle.std.proofs.lemmas.Option.{none-some}
+use Rattle.std.proofs.lemmas.List.Concat.{flat_map_single, flat_map-append}
+use Rattle.std.proofs.lemmas.List.FromFn.{length-map-range_with_len, get_or-map-range_with_len}
+use Rattle.pm_model.specs.Places.{below}
+use Rattle.pm_model.specs.Checks.{Check, check, first_failing}
+use Rattle.pm_model.proofs.Faults.{Holds}
+
+pub passes : (c : Check) (checks : List Check) → c.holds ≡ true → first_failing (c ∷ checks) ≡ first_failing checks
+passes c checks hit = rw hit refl
+
+pub fails : (c : Check) (checks : List Check) → c.holds ≡ false → first_failing (c ∷ checks) ≡ Some c.place
+fails c checks miss = rw miss refl
+
+-- a check alone
+pub lone : (place : ℕ) (holds : Bool) → then_some (not holds) place ≡ first_failing (check place holds ∷ [])
+lone place true = refl
+lone place false = refl
+
+pub pass-all : (xs ys : List Check) → first_failing xs ≡ None → first_failing (xs ++ ys) ≡ first_failing ys
+pass-all [] ys none = refl
+pass-all (c ∷ xs) ys none =
+    ⊎_elim (λ hit. passes c (xs ++ ys) hit ∙ pass-all xs ys (sym (passes c xs hit) ∙ none))
+    (λ miss. absurd (none-some c.place (sym none ∙ fails c xs miss)))
+    (cases_Bool c.holds)
+
+pub fail-first : (xs ys : List Check) (p : ℕ) → first_failing xs ≡ Some p → first_failing (xs ++ ys) ≡ Some p
+fail-first [] ys p some = absurd (none-some p some)
+fail-first (c ∷ xs) ys p some =
+    ⊎_elim (λ hit. passes c (xs ++ ys) hit ∙ fail-first xs ys p (sym (passes c xs hit) ∙ some))
+    (λ miss. fails c (xs ++ ys) miss ∙ sym (fails c xs miss) ∙ some)
+    (cases_Bool c.holds)
+
+-- what was found in the first ones, or else in the others
+pub first_of : (xs ys : List Check) (found : Option ℕ) → found ≡ first_failing xs → is_some found ≡ true → found ≡ first_failing (xs ++ ys)
+first_of xs ys None here some = absurd (false≢true some)
+first_of xs ys (Some p) here some = sym (fail-first xs ys p (sym here))
+
+pub then_rest : (xs ys : List Check) (found rest : Option ℕ) → found ≡ first_failing xs → is_some found ≡ false → rest ≡ first_failing ys → rest ≡ first_failing (xs ++ ys)
+then_rest xs ys None rest here none after = after ∙ sym (pass-all xs ys (sym here))
+then_rest xs ys (Some p) rest here none after = absurd (true≢false none)
+
+pub then_last : (xs : List Check) (found : Option ℕ) → found ≡ first_failing xs → found ≡ first_failing (xs ++ [])
+then_last xs found here = here ∙ ap first_failing (sym (append-nil xs))
+
+-- ── checks for each number below a bound ──
+
+module _ (f : ℕ → List Check) where
+  none_from : (n from : ℕ) → ((x : ℕ) → from ≤ x → x < from + n → first_failing (f x) ≡ None) → first_failing (flat_map f (range_with_len from n)) ≡ None
+  none_from zero from each = refl
+  none_from (suc n) from each =
+      pass-all (f from) (flat_map f (range_with_len (from + 1) n)) (each from (omega arith) (omega arith))
+      ∙ none_from n (from + 1) (λ x low high. each x (omega arith) (omega arith))
+
+  some_from : (n from k p : ℕ) → from ≤ k → k < from + n → ((x : ℕ) → from ≤ x → x < k → first_failing (f x) ≡ None) → first_failing (f k) ≡ Some p
+      → first_failing (flat_map f (range_with_len from n)) ≡ Some p
+  some_from zero from k p low high each found = absurd (omega arith)
+  some_from (suc n) from k p low high each found = ⊎_elim
+      (λ (e : from ≡ k). fail-first (f from) (flat_map f (range_with_len (from + 1) n)) p (ap (λ (x : ℕ). first_failing (f x)) e ∙ found))
+      (λ apart. pass-all (f from) (flat_map f (range_with_len (from + 1) n)) (each from (omega arith) (omega (arith, apart)))
+      ∙ some_from n (from + 1) k p (omega (arith, apart)) (omega arith) (λ x above high_x. each x (omega arith) high_x) found)
+      (cases_eq from k)
+
+  pub flat_none : (n : ℕ) → ((x : ℕ) → x < n → first_failing (f x) ≡ None) → first_failing (flat_map f (below n)) ≡ None
+  flat_none n each = none_from n 0 (λ x low high. each x (omega arith))
+
+  pub flat_some : (n k p : ℕ) → k < n → ((x : ℕ) → x < k → first_failing (f x) ≡ None) → first_failing (f k) ≡ Some p → first_failing (flat_map f (below n)) ≡ Some p
+  flat_some n k p lt each found = some_from n 0 k p (omega arith) (omega arith) (λ x low high. each x high) found
+
+  -- what was found for one number, where nothing was for those before it
+  pub flat_found : (n k : ℕ) (found : Option ℕ) → k < n → ((x : ℕ) → x < k → first_failing (f x) ≡ None) → found ≡ first_failing (f k) → is_some found ≡ true
+      → found ≡ first_failing (flat_map f (below n))
+  flat_found n k None lt each here some = absurd (false≢true some)
+  flat_found n k (Some p) lt each here some = sym (flat_some n k p lt each (sym here))
+
+-- nothing was found
+pub found_none : (found here : Option ℕ) → found ≡ here → is_some found ≡ false → here ≡ None
+found_none None here is none = sym is
+found_none (Some p) here is none = absurd (true≢false none)
+
+-- ── one check for each number below a bound ──
+
+module _ (f : ℕ → Check) where
+  abbrev single : ℕ → List Check
+  single x = f x ∷ []
+
+  as_flat : (xs : List ℕ) → first_failing (map f xs) ≡ first_failing (flat_map single xs)
+  as_flat xs = ap first_failing (sym (flat_map_single f xs))
+
+  pub map_none : (n : ℕ) → ((x : ℕ) → x < n → (f x).holds ≡ true) → first_failing (map f (below n)) ≡ None
+  map_none n each = as_flat (below n) ∙ flat_none single n (λ x lt. passes (f x) [] (each x lt))
+
+  pub map_some : (n k : ℕ) → k < n → ((x : ℕ) → x < k → (f x).holds ≡ true) → (f k).holds ≡ false → first_failing (map f (below n)) ≡ Some (f k).place
+  map_some n k lt each miss =
+      as_flat (below n) ∙ flat_some single n k ((f k).place) lt (λ x low. passes (f x) [] (each x low)) (fails (f k) [] miss)
+
+  -- where all of them hold, each does
+  pub map_holds : (n : ℕ) → All Holds (map f (below n)) → (k : ℕ) → k < n → (f k).holds ≡ true
+  map_holds n all k lt = subst (λ (c : Check). c.holds ≡ true) (get_or-map-range_with_len f 0 n k k (f k) lt (omega arith)) (all k (f k) (rw (length-map-range_with_len f 0 n) lt))
+
+-- checks of those that pass a test
+pub flat_map-filter : {X A : Type 0} (f : X → List A) (test : X → Bool) (xs : List X) → flat_map f (filter test xs) ≡ flat_map (λ x. cond (test x) (f x) []) xs
+flat_map-filter f test [] = refl
+flat_map-filter f test (x ∷ xs) =
+    ⊎_elim (λ (hit : test x ≡ true). rw hit (ap (λ (ys : List _). f x ++ ys) (flat_map-filter f test xs)))
+    (λ (miss : test x ≡ false). rw miss (flat_map-filter f test xs))
+    (cases_Bool (test x))
+
+-- checks of the parts of parts
+pub flat_map-flat_map : {X Y A : Type 0} (h : Y → List A) (g : X → List Y) (xs : List X) → flat_map h (flat_map g xs) ≡ flat_map (λ x. flat_map h (g x)) xs
+flat_map-flat_map h g [] = refl
+flat_map-flat_map h g (x ∷ xs) = flat_map-append h (g x) (flat_map g xs) ∙ ap (λ (ys : List _). flat_map h (g x) ++ ys) (flat_map-flat_map h g xs)

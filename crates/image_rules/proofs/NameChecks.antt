@@ -1,0 +1,112 @@
+-- The checks of names and kinds.
+use Rattle.std.proofs.Common.{◌≡◌, ◌≢◌, ⊎_elim, ℕ, ◌+◌, ◌/◌, ◌<◌, ◌≤◌, ◌⊎◌, inl, inr, Bool, true, false, ◌||◌, eqb, List, [], ◌∷◌, ◌++◌, map, get_or, refl, sym, ◌∙◌, ap, arith}
+use Rattle.std.specs.Prelude.{Option, None, Some}
+use Rattle.std.specs.Option.{is_some}
+use Rattle.std.specs.List.{flat_map}
+use Rattle.std.proofs.lemmas.Bool.{ne_eqb, eq-eqb, or_from, or_left, or_right}
+use Rattle.std.proofs.lemmas.List.Folds.{flat_map-map}
+use Rattle.pm_model.specs.Places.{below}
+use Rattle.pm_model.specs.Records.{column_at, columns_at, column_name_at, kind_at, table_name_at}
+use Rattle.pm_model.specs.Tables.{table_count, table_block, columns_of}
+use Rattle.pm_model.specs.Checks.{Check, check, first_failing}
+use Rattle.pm_model.specs.EntryRules.{name_rule, name_checks, kind_check, is_padded_name_byte}
+use Rattle.image_rules.specs.Parts.{column_name_checks, table_name_checks}
+use Rattle.image_rules.proofs.Firsts.{passes, fails, map_none, map_some, flat_none, flat_found, found_none, first_of, then_rest}
+
+module _ (words : List ℕ) where
+  -- ── a name ──
+
+  module _ (name : ℕ) where
+    abbrev pub BytesBelow : ℕ → Type 0
+    BytesBelow k = (x : ℕ) → x < k → is_padded_name_byte words name x ≡ true
+
+    abbrev byte_check : ℕ → Check
+    byte_check x = check (name + x / 8) (is_padded_name_byte words name x)
+
+    pub byte_fails : (k : ℕ) → k < 24 → BytesBelow k → is_padded_name_byte words name k ≡ false → Some (name + k / 8) ≡ first_failing (name_checks words name)
+    unfolding name_checks
+    byte_fails k lt each miss = sym (map_some byte_check 24 k lt each miss)
+
+    pub bytes_none : BytesBelow 24 → None ≡ first_failing (name_checks words name)
+    unfolding name_checks
+    bytes_none each = sym (map_none byte_check 24 each)
+
+  pub name_at : (found : Option ℕ) (name at : ℕ) → name ≡ at → found ≡ first_failing (name_checks words name) → found ≡ first_failing (name_checks words at)
+  name_at found name at is here = here ∙ ap (λ (n : ℕ). first_failing (name_checks words n)) is
+
+  -- ── a column ──
+
+  module _ (column : ℕ) where
+    pub kind_fails : get_or words column 0 ≢ 1 → get_or words column 0 ≢ 2 → Some column ≡ first_failing (column_name_checks words column)
+    kind_fails not_1 not_2 =
+        sym (fails (kind_check words column) (name_checks words (column_name_at column)) (or_from _ _ (ne_eqb (get_or words column 0) 1 not_1) (ne_eqb (get_or words column 0) 2 not_2)))
+
+    pub kind_holds : (found : Option ℕ) → (get_or words column 0 ≡ 1) ⊎ (get_or words column 0 ≡ 2) → found ≡ first_failing (name_checks words (column_name_at column))
+        → found ≡ first_failing (column_name_checks words column)
+    kind_holds found kind here =
+        here
+        ∙ sym (passes (kind_check words column) (name_checks words (column_name_at column))
+        (⊎_elim (λ one. or_left _ _ (eq-eqb (get_or words column 0) 1 one)) (λ two. or_right _ _ (eq-eqb (get_or words column 0) 2 two)) kind))
+
+  -- ── a table ──
+
+  module _ (block : ℕ) where
+    abbrev columns : ℕ
+    columns = get_or words (columns_at block) 0
+
+    abbrev numbered_column : ℕ → List Check
+    numbered_column number = column_name_checks words (column_at block number)
+
+    abbrev of_columns : List Check
+    of_columns = flat_map (column_name_checks words) (columns_of words block)
+
+    of_columns-is : of_columns ≡ flat_map numbered_column (below columns)
+    of_columns-is = flat_map-map (column_name_checks words) (column_at block) (below columns)
+
+    pub named_found : (named : Option ℕ) → named ≡ first_failing (name_checks words (table_name_at block)) → is_some named ≡ true → named ≡ first_failing (table_name_checks words block)
+    named_found named here some = first_of (name_checks words (table_name_at block)) of_columns named here some
+
+    behind : (named found : Option ℕ) → named ≡ first_failing (name_checks words (table_name_at block)) → is_some named ≡ false → found ≡ first_failing (flat_map numbered_column (below columns))
+        → found ≡ first_failing (table_name_checks words block)
+    behind named found first none here = then_rest (name_checks words (table_name_at block)) of_columns named found first none (here ∙ ap first_failing (sym of_columns-is))
+
+    abbrev pub ColumnNamesBelow : ℕ → Type 0
+    ColumnNamesBelow k = (x : ℕ) → x < k → first_failing (column_name_checks words (column_at block x)) ≡ None
+
+    pub column_found : (named found : Option ℕ) (k column : ℕ) → named ≡ first_failing (name_checks words (table_name_at block)) → is_some named ≡ false → k < get_or words block 0 → ColumnNamesBelow k
+        → column ≡ column_at block k → found ≡ first_failing (column_name_checks words column) → is_some found ≡ true → found ≡ first_failing (table_name_checks words block)
+    column_found named found k column first none lt each at here some =
+        behind named found first none (flat_found numbered_column columns k found lt each (here ∙ ap (λ (c : ℕ). first_failing (column_name_checks words c)) at) some)
+
+    pub column_none : (k column : ℕ) (found : Option ℕ) → column ≡ column_at block k → found ≡ first_failing (column_name_checks words column) → is_some found ≡ false
+        → first_failing (column_name_checks words (column_at block k)) ≡ None
+    column_none k column found at here none =
+        ap (λ (c : ℕ). first_failing (column_name_checks words c)) (sym at) ∙ found_none found (first_failing (column_name_checks words column)) here none
+
+    pub columns_none : (named : Option ℕ) → named ≡ first_failing (name_checks words (table_name_at block)) → is_some named ≡ false → ColumnNamesBelow (get_or words block 0)
+        → None ≡ first_failing (table_name_checks words block)
+    columns_none named first none each = behind named None first none (sym (flat_none numbered_column columns each))
+
+  -- ── all tables ──
+
+  abbrev table_checks : ℕ → List Check
+  table_checks table = table_name_checks words (table_block words table)
+
+  abbrev pub TableNamesBelow : ℕ → Type 0
+  TableNamesBelow k = (x : ℕ) → x < k → first_failing (table_name_checks words (table_block words x)) ≡ None
+
+  by_table : first_failing (name_rule words) ≡ first_failing (flat_map table_checks (below (table_count words)))
+  unfolding name_rule
+  by_table = ap first_failing (flat_map-map (table_name_checks words) (table_block words) (below (table_count words)))
+
+  pub table_found : (k block : ℕ) (found : Option ℕ) → k < table_count words → TableNamesBelow k → block ≡ table_block words k → found ≡ first_failing (table_name_checks words block) → is_some found ≡ true
+      → found ≡ first_failing (name_rule words)
+  table_found k block found lt each at here some =
+      flat_found table_checks (table_count words) k found lt each (here ∙ ap (λ (b : ℕ). first_failing (table_name_checks words b)) at) some ∙ sym by_table
+
+  pub table_none : (block : ℕ) (found : Option ℕ) (k : ℕ) → block ≡ table_block words k → found ≡ first_failing (table_name_checks words block) → is_some found ≡ false
+      → first_failing (table_name_checks words (table_block words k)) ≡ None
+  table_none block found k at here none = ap (λ (b : ℕ). first_failing (table_name_checks words b)) (sym at) ∙ found_none found (first_failing (table_name_checks words block)) here none
+
+  pub tables_none : TableNamesBelow (table_count words) → None ≡ first_failing (name_rule words)
+  tables_none each = sym (by_table ∙ flat_none table_checks (table_count words) each)

@@ -1,0 +1,16 @@
+use Rattle.std.proofs.Common.{sym, ◌∙◌, below_more, arith}
+use Rattle.image_rules.proofs.NameChecks.{table_found, table_none, tables_none}
+use Rattle.image_rules.proofs.name_rules.name_fault.Goals as goal
+
+pub returns-then-is_some : goal.returns-then-is_some
+returns-then-is_some c =
+    table_found c.args.words.now c.loop-table.table c.table_block.result.0 c.table_names_fault-found.result (omega (arith, c.loop-table-test.true, c.published_tables-table-end.ensures.count)) c.loop-table.invariant
+    c.table_block.ensures.place c.table_names_fault-found.ensures (sym c.is_some.ensures ∙ c.if-is_some.true)
+
+pub loop-table-preserved : goal.loop-table-preserved
+loop-table-preserved c =
+    below_more _ _ c.loop-table.invariant
+    (table_none c.args.words.now c.table_block.result.0 c.table_names_fault-found.result c.loop-table.table c.table_block.ensures.place c.table_names_fault-found.ensures (sym c.is_some.ensures ∙ c.if-is_some.false))
+
+pub returns : goal.returns
+returns c = tables_none c.args.words.now (λ x lt. c.loop-table.invariant x (omega (arith, lt, c.loop-table-test.false, c.published_tables-table-end.ensures.count)))

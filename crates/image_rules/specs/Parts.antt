@@ -1,0 +1,29 @@
+-- Parts of the rules, which a function of their own tries.
+use Rattle.std.specs.Prelude.{ℕ, ◌+◌, ◌≤◌, List, [], ◌∷◌, ◌++◌, map, length, slice_index}
+use Rattle.std.specs.List.{flat_map}
+use Rattle.pm_model.specs.Places.{below, is_null_or_pointer_to}
+use Rattle.pm_model.specs.Records.{column_name_at, columns_at, table_name_at, table_words}
+use Rattle.pm_model.specs.Objects.{segment_pointer_at}
+use Rattle.pm_model.specs.Tables.{columns_of}
+use Rattle.pm_model.specs.Checks.{Check, check}
+use Rattle.pm_model.specs.EntryRules.{is_segment_pointer, kind_check, name_checks}
+
+-- the pointers to the first segments of an object, so many of them, and the one after them
+abbrev pub segment_checks : List ℕ → ℕ → ℕ → List Check
+segment_checks words object ready =
+    map (λ segment. check (segment_pointer_at words object segment) (is_segment_pointer words object segment)) (below ready)
+    ++ check (segment_pointer_at words object ready) (is_null_or_pointer_to words 256 (slice_index words (segment_pointer_at words object ready))) ∷ []
+
+-- a table's block has 1 to 16 columns, and its words lie in the image
+pub record IsTableBlock (words : List ℕ) (block : ℕ) : Type 0 where
+  pub some : 1 ≤ slice_index words (columns_at block)
+  pub most : slice_index words (columns_at block) ≤ 16
+  pub within : block + table_words (slice_index words (columns_at block)) ≤ length words
+
+-- a column's kind and name
+abbrev pub column_name_checks : List ℕ → ℕ → List Check
+column_name_checks words column = kind_check words column ∷ name_checks words (column_name_at column)
+
+-- a table's name, and the kinds and names of its columns
+abbrev pub table_name_checks : List ℕ → ℕ → List Check
+table_name_checks words block = name_checks words (table_name_at block) ++ flat_map (column_name_checks words) (columns_of words block)

@@ -1,0 +1,34 @@
+// The rules of the first words.
+ghost use Rattle.std.specs.Prelude.{◌≡◌, ◌≤◌, length};
+ghost use Rattle.pm_model.specs.Checks.{first_failing};
+ghost use Rattle.pm_model.specs.EntryRules.{magic_rule, version_rule, last_rule};
+
+use crate::layout::MAX_COMMITS;
+use pm_model::{MAGIC, VERSION, last_commit, magic, version};
+
+/// The place of the magic number, where it is another.
+pub fn magic_fault(words: &[u64]) -> Option<u32>
+    requires { 32768 ≤ length words.now }
+    ensures { result ≡ first_failing (magic_rule words.now) }
+{
+    let place = magic().0;
+    (words[place as usize] != MAGIC).then_some(place)
+}
+
+/// The place of the version, where it is another.
+pub fn version_fault(words: &[u64]) -> Option<u32>
+    requires { 32768 ≤ length words.now }
+    ensures { result ≡ first_failing (version_rule words.now) }
+{
+    let place = version().0;
+    (words[place as usize] != VERSION).then_some(place)
+}
+
+/// The place of the last commit number, where it is too great.
+pub fn last_fault(words: &[u64]) -> Option<u32>
+    requires { 32768 ≤ length words.now }
+    ensures { result ≡ first_failing (last_rule words.now) }
+{
+    let place = last_commit().0;
+    (words[place as usize] > MAX_COMMITS).then_some(place)
+}

@@ -1,0 +1,28 @@
+//! The numbered rules of an image: for each rule a function that finds the place of the first word that breaks it.
+//!
+//! - `NAME_fault` gives the place of the first check of `NAME_rule` that fails, and none where the image keeps the rule.
+//!   A rule is tried after those that it relies on.
+//! - `pointed_place`, `pointed_words` and `is_block_pointer` say what a word points to.
+#![tactic(auto)]
+
+mod array_rules;
+mod first_words;
+mod heap_rules;
+mod lane_rules;
+mod layout;
+mod name_rules;
+mod object_rules;
+mod pointers;
+mod table_rules;
+
+pub use array_rules::{arrays_fault, capacity, chunk_words};
+pub use first_words::{last_fault, magic_fault, version_fault};
+pub use heap_rules::{bitmap_fault, descriptor_fault, is_small_page, reserved_fault};
+pub use lane_rules::lane_fault;
+pub use layout::{ALLOCATING, FIRST_SLOT, IDLE, SMALL_PAGE};
+pub use name_rules::name_fault;
+pub use object_rules::objects_fault;
+pub use pointers::{is_block_pointer, is_null_or_words, pointed_place, pointed_words};
+pub use table_rules::{
+    columns_of, published_tables, table_block, table_count_fault, table_slot_fault,
+};

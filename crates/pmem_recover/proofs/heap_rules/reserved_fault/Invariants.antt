@@ -1,7 +1,0 @@
-use Rattle.std.proofs.Common.{◌≡◌, ℕ, ◌<◌, true, eqb, get_or}
-use Rattle.pm_model.specs.Fixed.{descriptor_at}
-use Rattle.pm_model.specs.Blocks.{is_reserved}
-use Rattle.pmem_recover.proofs.heap_rules.reserved_fault.Given as goal
-
-abbrev pub invariant-loop-page : goal.invariant-loop-page
-invariant-loop-page l = (x : ℕ) → x < l.page → is_reserved x ≡ true → eqb (get_or l.words (descriptor_at x) 0) 8 ≡ true

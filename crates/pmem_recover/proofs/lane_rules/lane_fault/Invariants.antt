@@ -1,6 +1,0 @@
-use Rattle.std.proofs.Common.{◌≡◌, ℕ, ◌<◌, true}
-use Rattle.pm_model.specs.HeapRules.{is_lane}
-use Rattle.pmem_recover.proofs.lane_rules.lane_fault.Given as goal
-
-abbrev pub invariant-loop-lane : goal.invariant-loop-lane
-invariant-loop-lane l = (x : ℕ) → x < l.lane → is_lane l.words x ≡ true
