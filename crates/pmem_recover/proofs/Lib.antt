@@ -1,4 +1,5 @@
 pub mod Changes
+pub mod Parts
 pub mod LaneChanges
 pub mod Mending
 pub mod Faults

@@ -12,6 +12,7 @@ mod heap_rules;
 mod lane_rules;
 mod lanes;
 mod laws;
+mod part;
 mod layout;
 
 pub use entry::check_entry;
