@@ -1,0 +1,6 @@
+pub mod Formatted
+pub mod FormattedImage
+pub mod Leaves
+pub mod OneOwner
+pub mod Opening
+pub mod Walks

@@ -1,0 +1,5 @@
+use Rattle.shown_state.proofs.OneOwner.{sound_has_owners}
+use Rattle.shown_state.proofs.laws.owner_law.Goals as goal
+
+pub returns : goal.returns
+returns c = sound_has_owners

@@ -1,0 +1,33 @@
+-- What holds of every image, of a sound one, or of a formatted one.
+use Rattle.std.specs.Prelude.{◌≡◌, ℕ, ◌<◌, ◌≤◌, List, length, slice_index, Contains}
+use Rattle.pm_model.specs.Pointer.{pointer_word}
+use Rattle.pm_model.specs.Places.{place_in}
+use Rattle.pm_model.specs.Trees.{leaves_from, AreLeavesFrom, stored_leaves}
+use Rattle.pm_model.specs.Tables.{all_columns}
+use Rattle.pm_model.specs.Checks.{Keeps}
+use Rattle.pm_model.specs.Owners.{EachBlockHasOneOwner}
+use Rattle.pm_model.specs.Records.{first_leaf_at}
+use Rattle.pm_model.specs.EntryRules.{tree_rule}
+use Rattle.pm_model.specs.SoundRules.{IsSound}
+use Rattle.pm_model.specs.Fresh.{fresh_words}
+
+-- a formatted image is sound
+abbrev pub FormattedIsSound : Type 0
+FormattedIsSound = (segments : ℕ) → 0 < segments → IsSound (fresh_words segments)
+
+-- in a sound image each live block has one owner
+abbrev pub SoundHasOwners : Type 0
+SoundHasOwners = (words : List ℕ) → IsSound words → EachBlockHasOneOwner words
+
+-- a pointer word names its place
+abbrev pub PointersNameTheirPlace : Type 0
+PointersNameTheirPlace = (place : ℕ) → place_in (pointer_word place) ≡ place
+
+-- a walk of enough steps reaches all leaves that there are
+abbrev pub WalksAreWhole : Type 0
+WalksAreWhole = (words : List ℕ) (word : ℕ) (leaves : List ℕ) (steps : ℕ) → AreLeavesFrom words word leaves → length leaves ≤ steps → leaves_from words steps word ≡ leaves
+
+-- where the rule of trees is kept, the stored leaves of a column are all that next words reach
+abbrev pub StoredLeavesAreWhole : Type 0
+StoredLeavesAreWhole = (words : List ℕ) → Keeps words tree_rule
+    → (column : ℕ) → Contains (all_columns words) column → AreLeavesFrom words (slice_index words (first_leaf_at column)) (stored_leaves words column)

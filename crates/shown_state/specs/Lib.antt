@@ -1,0 +1,6 @@
+pub mod ImageLaws
+pub mod LogicalState
+pub mod Mending
+pub mod OpeningLaws
+pub mod Packed
+pub mod Recoverable
