@@ -1,5 +1,6 @@
 pub mod Changes
 pub mod Parts
+pub mod Steps
 pub mod LaneChanges
 pub mod Mending
 pub mod Faults

@@ -1,3 +1,4 @@
 pub mod Changes
 pub mod EntryRules
 pub mod Lanes
+pub mod Steps

@@ -12,6 +12,7 @@ mod heap_rules;
 mod lane_rules;
 mod lanes;
 mod laws;
+mod objects;
 mod part;
 mod layout;
 
@@ -19,6 +20,7 @@ pub use entry::check_entry;
 pub use error::EntryError;
 pub use lanes::next_lane;
 pub use laws::{fault_law, lane_opening_law};
+pub use objects::{next_idle, next_last};
 pub use pm_model::NoMemory;
 
 #[cfg(test)]
