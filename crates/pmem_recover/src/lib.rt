@@ -6,6 +6,7 @@
 #![tactic(auto)]
 
 mod change;
+mod entries;
 mod entry;
 mod error;
 mod heap_rules;
