@@ -1,3 +1,5 @@
 pub mod Changes
 pub mod EntryRules
+pub mod Filled
 pub mod Lanes
+pub mod Steps

@@ -30,8 +30,8 @@ pub(crate) fn push_needed<M: Memory>(plan: &mut Plan, mem: &M, changes: &[Change
     }
 }
 
-// The word at a place once these changes were made.
-fn word_after<M: Memory>(mem: &M, changes: &[Change], at: Place) -> u64
+/// The word at a place once these changes were made.
+pub(crate) fn word_after<M: Memory>(mem: &M, changes: &[Change], at: Place) -> u64
     requires { at.0 < length (M.device mem.now).cached }
     ensures { result ≡ slice_index (finished (change_parts changes.now) (M.device mem.now).cached) at.0 }
 {

@@ -67,8 +67,8 @@ fn plan_lane<M: Memory>(alloc: Global, mem: &M, lane: u8) -> Result<Plan, NoMemo
     Ok(plan)
 }
 
-// The place that a word points to.
-fn read_pointer<M: Memory>(mem: &M, at: Place) -> Place
+/// The place that a word points to.
+pub(crate) fn read_pointer<M: Memory>(mem: &M, at: Place) -> Place
     requires in_image { at.0 < length (M.device mem.now).cached }
     requires pointer { IsTrue (is_pointer (M.device mem.now).cached (slice_index (M.device mem.now).cached at.0)) }
     ensures place { result.0 ≡ place_in (slice_index (M.device mem.now).cached at.0) }

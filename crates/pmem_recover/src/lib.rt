@@ -6,16 +6,20 @@
 #![tactic(auto)]
 
 mod change;
+mod entries;
 mod entry;
 mod error;
 mod lanes;
 mod laws;
+mod objects;
+mod part;
 mod layout;
 
 pub use entry::check_entry;
 pub use error::EntryError;
 pub use lanes::next_lane;
 pub use laws::{fault_law, lane_opening_law};
+pub use objects::{next_idle, next_last};
 pub use pm_model::NoMemory;
 
 #[cfg(test)]

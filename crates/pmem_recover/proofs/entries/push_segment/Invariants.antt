@@ -1,0 +1,12 @@
+use Rattle.std.proofs.Common.{◌≡◌, ◌+◌, ◌≤◌, ◌++◌, map}
+use Rattle.std.specs.Prelude.{filter, vec_len}
+use Rattle.pm_model.specs.Records.{segment_entry_at}
+use Rattle.pm_model.specs.Places.{below}
+use Rattle.pmem_recover.specs.Filled.{is_filled, places_of}
+use Rattle.pmem_recover.proofs.entries.push_segment.Given as goal
+
+abbrev pub invariant-loop-entry : goal.invariant-loop-entry
+invariant-loop-entry g l = record {
+  places : places_of l.filled.items ≡ places_of l.fn.filled.items ++ filter (is_filled (g.M.Memory.device l.mem).cached) (map (segment_entry_at l.segment.0) (below l.entry));
+  few : vec_len l.filled ≤ vec_len l.fn.filled + l.entry;
+}
