@@ -1,2 +1,3 @@
 pub mod EntryListState
 pub mod Entries
+pub mod Object

@@ -3,9 +3,14 @@
 #![tactic(auto)]
 
 mod entry;
+mod object;
+mod reading;
+mod segments;
 
 pub use entry::{Entry, EntryKind, EntryList};
+pub use object::{plan_begin, push_entry, push_retire};
 pub use pm_model::NoMemory;
+pub use reading::{entries, free_entries};
 
 #[cfg(test)]
 mod tests;

@@ -1,0 +1,130 @@
+// The plans of a transaction on its object. Session k has object k - 1.
+ghost use Rattle.std.specs.Prelude.{◌≡◌, ◌+◌, ◌-◌, ◌^◌, ◌<◌, ◌≤◌, ◌||◌, ◌==◌, ◌++◌, min, not, take, length, if◌then◌else◌, IfOk, IsTrue};
+ghost use Rattle.std.specs.List.{range_with_len};
+ghost use Rattle.pm_model.specs.Checks.{Keeps};
+ghost use Rattle.pm_model.specs.EntryRules.{object_rule};
+ghost use Rattle.pm_model.specs.Objects.{entry_places};
+ghost use Rattle.pm_model.specs.Plans.{part_actions, plan_of, stores};
+ghost use Rattle.txn_object.specs.Object.{begin_parts, entry_part, clear_part, retire_parts};
+
+use crate::entry::Entry;
+use crate::segments::{MORE_ENTRIES, OWN_ENTRIES, entry_place, named};
+use pm_model::{
+    Action, Memory, NoMemory, Place, Plan, commit_word, entry_word, object_state, segment_entry,
+    segment_pointer,
+};
+use std::alloc::Global;
+
+// The actions of a part of one store: the store, a flush and a fence.
+const STORE_ACTIONS: u32 = 3;
+
+/// A plan that opens the session's transaction object. It has 3 actions.
+pub fn plan_begin(alloc: Global, session: u8) -> Result<Plan, NoMemory>
+    requires first { 1 ≤ session }
+    requires last { session ≤ 16 }
+    ensures { IfOk result (λ plan. plan.left ≡ plan_of (begin_parts (session - 1))) }
+{
+    let mut plan = Plan::with_room(alloc, STORE_ACTIONS)?;
+    plan.push_store(object_state(session - 1), 1);
+    Ok(plan)
+}
+
+/// Adds the part of 3 actions that makes an entry the one at place `nth` of the session's transaction, of which its object
+/// has the first 60 and each ready segment 255 more. It takes no memory.
+pub fn push_entry<M: Memory>(plan: &mut Plan, mem: &M, session: u8, nth: u32, entry: Entry)
+    requires first { 1 ≤ session }
+    requires last { session ≤ 16 }
+    requires rule { 60 ≤ nth → Keeps (M.device mem.now).cached (object_rule (session - 1)) }
+    requires there { nth < length (entry_places (M.device mem.now).cached (session - 1)) }
+    requires table { entry.table < 2 ^ 24 }
+    requires room { 2 < plan.old.spare }
+    ensures left { plan.new.left ≡ plan.old.left ++ part_actions (entry_part (M.device mem.now).cached (session - 1) nth entry) }
+    ensures spare { plan.new.spare + 3 ≡ plan.old.spare }
+{
+    plan.push_store(entry_place(mem, session - 1, nth), entry.word());
+}
+
+/// Adds the parts that end the session's transaction: its object becomes idle, and then its first `entries` entry words
+/// and, where `word` says that it is set, its commit word are cleared. It takes no memory.
+pub fn push_retire<M: Memory>(plan: &mut Plan, mem: &M, session: u8, entries: u32, word: bool)
+    requires first { 1 ≤ session }
+    requires last { session ≤ 16 }
+    requires rule { 60 < entries → Keeps (M.device mem.now).cached (object_rule (session - 1)) }
+    requires there { entries ≤ length (entry_places (M.device mem.now).cached (session - 1)) }
+    requires room { length (plan_of (retire_parts (M.device mem.now).cached (session - 1) entries word)) ≤ plan.old.spare }
+    ensures left { plan.new.left ≡ plan.old.left ++ plan_of (retire_parts (M.device mem.now).cached (session - 1) entries word) }
+    ensures spare { plan.new.spare + length (plan_of (retire_parts (M.device mem.now).cached (session - 1) entries word)) ≡ plan.old.spare }
+{
+    plan.push_store(object_state(session - 1), 0);
+    if entries > 0 || word {
+        push_clear(plan, mem, session - 1, entries, word);
+    }
+}
+
+// Adds the part that clears so many entries and, where `word` says so, the commit word.
+fn push_clear<M: Memory>(plan: &mut Plan, mem: &M, object: u8, entries: u32, word: bool)
+    requires object { object < 16 }
+    requires rule { 60 < entries → Keeps (M.device mem.now).cached (object_rule object) }
+    requires there { entries ≤ length (entry_places (M.device mem.now).cached object) }
+    requires some { IsTrue (not (entries == 0) || word) }
+    requires room { length (part_actions (clear_part (M.device mem.now).cached object entries word)) ≤ plan.old.spare }
+    ensures left { plan.new.left ≡ plan.old.left ++ part_actions (clear_part (M.device mem.now).cached object entries word) }
+    ensures spare { plan.new.spare + length (part_actions (clear_part (M.device mem.now).cached object entries word)) ≡ plan.old.spare }
+{
+    push_clear_stores(plan, mem, object, entries, word);
+    plan.end_part(entries + u32::from(word));
+}
+
+// Adds the stores of that part.
+fn push_clear_stores<M: Memory>(plan: &mut Plan, mem: &M, object: u8, entries: u32, word: bool)
+    requires object { object < 16 }
+    requires rule { 60 < entries → Keeps (M.device mem.now).cached (object_rule object) }
+    requires there { entries ≤ length (entry_places (M.device mem.now).cached object) }
+    requires room { entries + (if word then 1 else 0) ≤ plan.old.spare }
+    ensures left { plan.new.left ≡ plan.old.left ++ clear_part (M.device mem.now).cached object entries word }
+    ensures spare { plan.new.spare + (entries + (if word then 1 else 0)) ≡ plan.old.spare }
+{
+    push_entry_zeros(plan, mem, object, entries);
+    if word {
+        plan.push(Action::Store {
+            place: commit_word(object),
+            value: 0,
+        });
+    }
+}
+
+// Adds a store of 0 at each of the first entries of an object, so many of them.
+fn push_entry_zeros<M: Memory>(plan: &mut Plan, mem: &M, object: u8, entries: u32)
+    requires object { object < 16 }
+    requires rule { 60 < entries → Keeps (M.device mem.now).cached (object_rule object) }
+    requires there { entries ≤ length (entry_places (M.device mem.now).cached object) }
+    requires room { entries ≤ plan.old.spare }
+    ensures left { plan.new.left ≡ plan.old.left ++ stores 0 (take entries (entry_places (M.device mem.now).cached object)) }
+    ensures spare { plan.new.spare + entries ≡ plan.old.spare }
+{
+    let own = entries.min(OWN_ENTRIES);
+    push_zeros(plan, entry_word(object, 0), own);
+    let more = entries - own;
+    let mut pointer = segment_pointer(object);
+    for segment in 0..more.div_ceil(MORE_ENTRIES) {
+        let first = named(mem, pointer);
+        let count = (more - MORE_ENTRIES * segment).min(MORE_ENTRIES);
+        push_zeros(plan, segment_entry(first, 0), count);
+        pointer = first;
+    }
+}
+
+/// Adds a store of 0 at each of so many places in a row.
+pub(crate) fn push_zeros(plan: &mut Plan, first: Place, count: u32)
+    requires within { first.0 + count ≤ 4194304 }
+    requires room { count ≤ plan.old.spare }
+    ensures left { plan.new.left ≡ plan.old.left ++ stores 0 (range_with_len first.0 count) }
+    ensures spare { plan.new.spare + count ≡ plan.old.spare }
+{
+    for nth in 0..count {
+        plan.push(Action::Store {
+            place: Place(first.0 + nth),
+            value: 0,
+        });
+    }
+}
