@@ -43,12 +43,12 @@ module _ (base : List ℕ) (g : Growth) (may : MayGrow base g) where
   pub in_image : g.first + pages ≤ page_count base
   in_image = ⊎_elim (λ run. run.run.in_image) (λ owns. owns.in_image) may.chunk
 
-  in_segment : g.first % 64 + pages ≤ 64
+  pub in_segment : g.first % 64 + pages ≤ 64
   in_segment = ⊎_elim (λ run. run.run.in_segment) (λ owns. owns.in_segment) may.chunk
 
   -- ── the words of the header ──
 
-  header_outside : (w k : ℕ) → w ≡ g.header + k → k < 16 → IsOutsidePages g.first pages w
+  pub header_outside : (w k : ℕ) → w ≡ g.header + k → k < 16 → IsOutsidePages g.first pages w
   header_outside w k is lt = ⊎_elim (λ before. inl (omega (arith, is, lt, before))) (λ behind. inr (omega (arith, is, behind))) may.apart
 
   pub header_elsewhere : (w k : ℕ) → w ≡ g.header + k → k < 16 → k ≢ count + 1 → IsElsewhere g.lane owner g.first pages w
@@ -209,6 +209,12 @@ module _ (base : List ℕ) (g : Growth) (may : MayGrow base g) where
     pub ends_published : finished (growth_parts base g) base ≡ published
     unfolding published
     ends_published = at.ends
+
+    pub ends_count : get_or (finished (growth_parts base g) base) g.header 0 ≡ chunk_count base g.header + 1
+    ends_count = ap (λ (words : List ℕ). get_or words g.header 0) ends_published ∙ published_count
+
+    pub ends_idle : get_or (finished (growth_parts base g) base) (lane_op_at g.lane) 0 ≡ 0
+    ends_idle = ap (λ (words : List ℕ). get_or words (lane_op_at g.lane) 0) ends_published ∙ op_kept published published_same
 
     pub blocks_kept : live_blocks (finished (growth_parts base g) base) ≡ live_blocks now
     blocks_kept = ap live_blocks ends_published ∙ live_blocks-same now published (same_heap published published_same)

@@ -1,12 +1,13 @@
 -- What the rule of an array says of its chunks.
-use Rattle.std.proofs.Common.{◌≡◌, ⊎_elim, ℕ, ◌+◌, ◌%◌, ◌<◌, ◌≤◌, true, false, eqb, leb, ltb, List, ◌∷◌, length, map, get_or, refl, sym, ◌∙◌, arith}
-use Rattle.std.proofs.lemmas.Bool.{cond-true, cond-false, lt-ltb, leb-true, ltb-true, eqb-true, eq-eqb, and_parts, or_cases}
-use Rattle.std.proofs.lemmas.List.Elements.{All-contains}
+use Rattle.std.proofs.Common.{◌≡◌, ⊎_elim, ℕ, ◌+◌, ◌%◌, ◌<◌, ◌≤◌, true, false, eqb, leb, ltb, List, ◌∷◌, length, map, get_or, refl, sym, ◌∙◌, subst, arith}
+use Rattle.std.specs.Prelude.{Contains, All}
+use Rattle.std.proofs.lemmas.Bool.{cond-true, cond-false, lt-ltb, le-ltb, le-leb, leb-true, ltb-true, eqb-true, eq-eqb, ne_eqb, and_parts, or_cases}
+use Rattle.std.proofs.lemmas.List.Elements.{All-contains, All-contains_itself}
 use Rattle.pm_model.specs.Pointer.{pointer_word}
 use Rattle.pm_model.specs.Places.{below, place_in, is_pointer, is_in_segment, is_pointer_to, is_null_or_pointer_to}
 use Rattle.pm_model.specs.Checks.{Check, check, Keeps}
 use Rattle.pm_model.proofs.Heap.{Holds}
-use Rattle.pm_model.proofs.Members.{below-Contains, Contains-here, Contains-there, map-Contains}
+use Rattle.pm_model.proofs.Members.{below-Contains, Contains-below, Contains-here, Contains-there, Contains-cons, Contains-map, map-Contains}
 use Rattle.pm_model.specs.Arrays.{chunk_words, capacity_of, chunk_of, offset_of, chunk_count, chunk_pointer_at, is_chunk_pointer, array_rule, capacity}
 use Rattle.seg_array.proofs.Sizes.{capacity_next, chunk_below}
 
@@ -52,6 +53,13 @@ module _ (words : List ℕ) (header : ℕ) (keeps : Keeps words (array_rule head
       names_chunk words (chunk_words chunk) (get_or words (chunk_pointer_at header chunk) 0)
       (sym (cond-true (ltb chunk (chunk_count words header)) _ _ (lt-ltb chunk (chunk_count words header) lt)) ∙ pointer_rule chunk (omega (arith, lt, most)))
 
+  -- all pointers behind the next one are null
+  pub behind_null : (chunk : ℕ) → chunk < 12 → chunk_count words header < chunk → get_or words (chunk_pointer_at header chunk) 0 ≡ 0
+  behind_null chunk lt behind =
+      let count = chunk_count words header in
+      eqb-true (get_or words (chunk_pointer_at header chunk) 0) 0
+      (sym (cond-false (eqb chunk count) _ _ (ne_eqb chunk count (λ e. omega (arith, e, behind)))) ∙ sym (cond-false (ltb chunk count) _ _ (le-ltb chunk count (omega (arith, behind)))) ∙ pointer_rule chunk lt)
+
   -- the chunk behind them, where the array owns one
   pub owned : chunk_count words header < 12 → (get_or words (chunk_pointer_at header (chunk_count words header)) 0 ≡ 0 → ⊥)
       → NamesChunk words (chunk_words (chunk_count words header)) (get_or words (chunk_pointer_at header (chunk_count words header)) 0)
@@ -84,3 +92,23 @@ module _ (words : List ℕ) (header : ℕ) (keeps : Keeps words (array_rule head
       where
         within : (place size count offset : ℕ) → place < size → place % 32768 + count ≤ 32768 → offset < count → size % 32768 ≡ 0 → place + offset < size
         within place size count offset a b c d = omega arith
+
+-- the rule, check by check
+module _ (words : List ℕ) (header : ℕ) where
+  count_here : Check
+  count_here = check header (leb (chunk_count words header) 12)
+
+  pointer_here : ℕ → Check
+  pointer_here chunk = check (chunk_pointer_at header chunk) (is_chunk_pointer words (chunk_count words header) chunk (get_or words (chunk_pointer_at header chunk) 0))
+
+  all_from : (checks : List Check) → ((c : Check) → Contains checks c → Holds c) → All Holds checks
+  all_from checks each k d lt = each (get_or checks k d) (All-contains_itself checks k d lt)
+
+  pub array_from : chunk_count words header ≤ 12 → ((chunk : ℕ) → chunk < 12 → is_chunk_pointer words (chunk_count words header) chunk (get_or words (chunk_pointer_at header chunk) 0) ≡ true) → Keeps words (array_rule header)
+  unfolding array_rule count_here pointer_here
+  array_from most each = record {
+    checks = all_from (count_here ∷ map pointer_here (below 12)) (λ c is.
+        ⊎_elim (λ (first : count_here ≡ c). subst Holds first (le-leb (chunk_count words header) 12 most))
+        (λ rest. let (chunk, among, at) = Contains-map pointer_here (below 12) c rest in subst Holds at (each chunk (Contains-below 12 chunk among)))
+        (Contains-cons count_here c (map pointer_here (below 12)) is));
+  }

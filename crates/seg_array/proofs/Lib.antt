@@ -1,8 +1,10 @@
+pub mod Again
 pub mod Growing
 pub mod Headers
 pub mod Lengths
 pub mod Planning
 pub mod Punches
+pub mod Rereading
 pub mod Sizes
 pub mod SmallPages
 pub mod TestImage

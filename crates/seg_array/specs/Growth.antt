@@ -1,13 +1,13 @@
 -- The growth of an array: the chunk behind the published ones is allocated, unless the array owns it already; its pages are
 -- made 0; and it is published.
-use Rattle.std.specs.Prelude.{◌≡◌, ◌⊎◌, ℕ, ◌+◌, ◌*◌, ◌%◌, ◌<◌, ◌≤◌, ◌==◌, if◌then◌else◌, List, [], ◌∷◌, ◌++◌, Contains, map, slice_index}
+use Rattle.std.specs.Prelude.{◌≡◌, ◌⊎◌, ℕ, ◌+◌, ◌*◌, ◌%◌, ◌<◌, ◌≤◌, ◌==◌, if◌then◌else◌, List, [], ◌∷◌, ◌++◌, Contains, map, length, slice_index}
 use Rattle.std.specs.List.{range_with_len}
 use Rattle.pm_model.specs.declared.action.Action.TheVariants.{Punch}
 use Rattle.pm_model.specs.Fixed.{lane_op_at}
 use Rattle.pm_model.specs.Pointer.{pointer_word}
-use Rattle.pm_model.specs.Places.{page_at, page_count}
+use Rattle.pm_model.specs.Places.{page_of, page_at, page_count}
 use Rattle.pm_model.specs.Plans.{Part, one_store}
-use Rattle.pm_model.specs.Blocks.{Block, live_blocks}
+use Rattle.pm_model.specs.Blocks.{Block, descriptor_of, is_inside, is_small_page, live_blocks}
 use Rattle.heap_palloc.specs.Parts.{big_allocation_parts}
 use Rattle.heap_palloc.specs.Law.{IsOwnerPlace, IsHeapPage, Pages, pages_allocation, MayTakeRun}
 use Rattle.pm_model.specs.Arrays.{chunk_pages, chunk_count, chunk_pointer_at}
@@ -62,3 +62,14 @@ pub record MayGrow (words : List ℕ) (g : Growth) : Type 0 where
   pub lane_is : g.lane < 16
   pub idle : slice_index words (lane_op_at g.lane) ≡ 0
   pub chunk : MayTakeRun words (next_chunk words g) ⊎ OwnsChunk words (next_chunk words g)
+
+-- What a growth reads is the same: the count, the pointer behind the published ones, the lane's op, the descriptors of the
+-- chunk's pages, whether the first of them stands inside a big block, and of the header's pages whether they are small.
+pub record SameGrowthRead (old new : List ℕ) (g : Growth) : Type 0 where
+  pub size : length new ≡ length old
+  pub count : chunk_count new g.header ≡ chunk_count old g.header
+  pub pointer : slice_index new (next_pointer_at old g.header) ≡ slice_index old (next_pointer_at old g.header)
+  pub op : slice_index new (lane_op_at g.lane) ≡ slice_index old (lane_op_at g.lane)
+  pub descriptors : (k : ℕ) → k < chunk_pages (chunk_count old g.header) → descriptor_of new (g.first + k) ≡ descriptor_of old (g.first + k)
+  pub inside : is_inside new g.first ≡ is_inside old g.first
+  pub header_small : (k : ℕ) → k < 16 → is_small_page new (page_of (g.header + k)) ≡ is_small_page old (page_of (g.header + k))

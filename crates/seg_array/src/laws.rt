@@ -4,9 +4,14 @@ ghost use Rattle.pm_model.specs.declared.action.Action.{Action};
 ghost use Rattle.pm_model.specs.Device.{Device, IsClean};
 ghost use Rattle.pm_model.specs.Plans.{Play, IsPlaying, IsPlan, IsCrashImageWithin, IsTakenBack, finished, footprint, plan_of};
 ghost use Rattle.pm_model.specs.Blocks.{live_blocks};
+ghost use Rattle.pm_model.specs.Checks.{Keeps};
+ghost use Rattle.heap_palloc.specs.Calls.{KeepsHeapRules};
+ghost use Rattle.heap_palloc.specs.Index.{HeapIndex};
 ghost use Rattle.heap_palloc.specs.Lane.{mended_lane};
 ghost use Rattle.heap_palloc.specs.Shown.{GainsOne};
-ghost use Rattle.seg_array.specs.Growth.{Growth, next_pointer_at, next_chunk, chunk_block, growth_parts, MayGrow};
+ghost use Rattle.pm_model.specs.Arrays.{array_rule};
+ghost use Rattle.seg_array.specs.Calls.{MayPlanGrowth, IsGrowthPlanned};
+ghost use Rattle.seg_array.specs.Growth.{Growth, next_pointer_at, next_chunk, chunk_block, growth_parts, MayGrow, SameGrowthRead};
 ghost use Rattle.seg_array.specs.Shown.{IsUngrown, IsGrown};
 
 /// A growth: the lane mended, each image has the capacity before, or the capacity after and new words of 0. After the last
@@ -28,4 +33,14 @@ pub fn growth_law()
         IsGrown base g (mended_lane g.lane image) }
     ensures settles { (base : List ℕ) (g : Growth) → MayGrow base g → IsGrown base g (finished (growth_parts base g) base) }
     ensures clean { (play : Play) (n w : ℕ) (d : Device) → IsPlaying play n [] d → IsTrue (footprint (plan_of play.parts) w) → IsClean d w }
+
+    // Then the rules of the heap and of the array hold again, and the next growth may be planned.
+    ensures rules { (base : List ℕ) (g : Growth) → KeepsHeapRules base → MayGrow base g → KeepsHeapRules (finished (growth_parts base g) base) }
+    ensures array { (base : List ℕ) (g : Growth) → Keeps base (array_rule g.header) → MayGrow base g → Keeps (finished (growth_parts base g) base) (array_rule g.header) }
+    ensures again { (base : List ℕ) (old new : HeapIndex) (lane header : ℕ) (plan : List Action) → MayPlanGrowth base old lane header →
+        (planned : IsGrowthPlanned base old new lane header plan) →
+        MayPlanGrowth (finished (growth_parts base (record { lane = lane; header = header; first = planned.first })) base) new lane header }
+
+    // Other words may change before it begins.
+    ensures reads { (old new : List ℕ) (g : Growth) → SameGrowthRead old new g → MayGrow old g → MayGrow new g × (growth_parts new g ≡ growth_parts old g) }
 {}

@@ -1,39 +1,46 @@
-ghost use Rattle.std.specs.Prelude.{◌≡◌, IfOk, length};
+ghost use Rattle.std.specs.Prelude.{◌≡◌, ℕ, ◌*◌, ◌<◌, ◌≤◌, IfOk, length};
+ghost use Rattle.pm_model.specs.Checks.{Keeps};
 ghost use Rattle.pm_model.specs.Plain.{device_of};
 ghost use Rattle.pm_model.specs.Plans.{MayPlay, at_rest};
-ghost use Rattle.seg_array.specs.TestImage.{test_image};
+ghost use Rattle.pm_model.specs.Arrays as arrays;
+ghost use Rattle.pm_model.specs.Arrays.{array_rule};
+ghost use Rattle.seg_array.specs.TestImage.{test_image, owned_image, IsReady};
 
 use crate::*;
-use heap_palloc::reopen;
-use pm_model::{Keep, Memory, Place, Plain, Plan, fresh, play};
+use heap_palloc::{Heap, reopen};
+use pm_model::{Action, Keep, Memory, Page, Place, Plain, Plan, fresh, play};
 use std::alloc::Global;
 use std::process::Abort;
 use std::test::Fail;
 
+const HEADER: Place = Place(2064);
+
 // An array without chunks, whose header stands in a block of page 4. Page 5 is free and has a word that isn't 0.
-fn image(alloc: Global) -> Result<Vec<u64>, NoMemory>
-    ensures words { IfOk result (λ words. words.items ≡ test_image) }
-    ensures size { IfOk result (λ words. length words.items ≡ 32768) }
+fn image(alloc: Global, segments: u32) -> Result<Vec<u64>, NoMemory>
+    requires one_or_more { 1 ≤ segments }
+    requires most { segments ≤ 128 }
+    ensures words { IfOk result (λ words. words.items ≡ test_image segments) }
+    ensures size { IfOk result (λ words. length words.items ≡ 32768 * segments) }
 {
-    let mut words = fresh(alloc, 1)?;
+    let mut words = fresh(alloc, segments)?;
     words[4] = 17;
     words[2600] = 9;
     Ok(words)
 }
 
 fn memory(alloc: Global) -> Result<Plain, NoMemory>
-    ensures { IfOk result (λ memory. device_of memory ≡ at_rest test_image) }
+    ensures { IfOk result (λ memory. device_of memory ≡ at_rest (test_image 1)) }
 {
-    Plain::new(alloc, image(alloc)?)
+    Plain::new(alloc, image(alloc, 1)?)
 }
 
 // The growth of that array.
 fn growth<M: Memory>(alloc: Global, mem: &M) -> Result<Plan, GrowError>
-    requires { M.device mem.now ≡ at_rest test_image }
+    requires { M.device mem.now ≡ at_rest (test_image 1) }
     ensures { IfOk result (λ plan. MayPlay 1 plan.left (M.device mem.now)) }
 {
     let mut heap = reopen(alloc, mem)?;
-    plan_grow(alloc, mem, &mut heap, 0, Place(2064))
+    plan_grow(alloc, mem, &mut heap, 0, HEADER)
 }
 
 // The words that a power cut after so many actions leaves, and how many actions weren't played.
@@ -43,7 +50,7 @@ fn cut<M: Memory>(
     played: u32,
     keep: Keep,
 ) -> Result<(Vec<u64>, u32), GrowError>
-    requires { M.device mem.old ≡ at_rest test_image }
+    requires { M.device mem.old ≡ at_rest (test_image 1) }
 {
     let mut plan = growth(alloc, mem)?;
     play(mem, 1, &mut plan, played);
@@ -100,6 +107,133 @@ fn a_growth_is_cut_after_each_action(rt: HostRuntime) -> Result<(), Fail> {
         for played in 1..22 {
             assert_eq!(rt; check_cut(&rt, rt.alloc(), played, keep)?, 21 - played);
         }
+    }
+    Ok(())
+}
+
+// The image that a cut leaves of that growth once its chunk is allocated.
+fn owned(alloc: Global) -> Result<Vec<u64>, NoMemory>
+    ensures words { IfOk result (λ words. words.items ≡ owned_image) }
+    ensures size { IfOk result (λ words. length words.items ≡ 32768) }
+{
+    let mut words = image(alloc, 1)?;
+    words[5] = 17;
+    words[577] = 4_294_969_361;
+    words[578] = 4_294_969_856;
+    words[2065] = 4_294_969_856;
+    Ok(words)
+}
+
+// The growth of the array on that image.
+fn growth_of_owned(alloc: Global) -> Result<Plan, GrowError> {
+    let memory = Plain::new(alloc, owned(alloc)?)?;
+    let mut heap = reopen(alloc, &memory)?;
+    plan_grow(alloc, &memory, &mut heap, 0, HEADER)
+}
+
+// Page 5 is made 0 and published; no descriptor, pointer or word of a lane is written.
+#[test]
+fn an_owned_chunk_is_used_again(rt: HostRuntime) -> Result<(), Fail> {
+    let (words, left) = cut(rt.alloc(), &mut memory(rt.alloc())?, 16, Keep::Nothing)?;
+    assert_eq!(rt; left, 5);
+    assert!(rt; words == owned(rt.alloc())?);
+    let mut plan = growth_of_owned(rt.alloc())?;
+    let actions = [
+        Action::Punch { page: Page(5) },
+        Action::Fence,
+        Action::Store {
+            place: HEADER,
+            value: 1,
+        },
+        Action::Flush { line: 258 },
+        Action::Fence,
+    ];
+    for action in actions {
+        assert_eq!(rt; plan.next(), Some(action));
+    }
+    assert!(rt; plan.is_empty());
+    Ok(())
+}
+
+// The memory of an array without chunks, and its heap.
+fn ready(alloc: Global, segments: u32) -> Result<(Plain, Heap), NoMemory>
+    requires one_or_more { 1 ≤ segments }
+    requires most { segments ≤ 128 }
+    ensures { IfOk result (λ made. IsReady (device_of made.0) made.1) }
+{
+    let memory = Plain::new(alloc, image(alloc, segments)?)?;
+    let heap = reopen(alloc, &memory)?;
+    Ok((memory, heap))
+}
+
+// Plays all of a growth, and gives how many actions it has.
+fn grow<M: Memory>(alloc: Global, memory: &mut M, heap: &mut Heap) -> Result<u32, GrowError>
+    requires { IsReady (M.device memory.old) heap.old }
+    ensures { IsReady (M.device memory.new) heap.new }
+{
+    let mut plan = plan_grow(alloc, memory, heap, 0, HEADER)?;
+    let actions = plan.len();
+    play(memory, 1, &mut plan, actions);
+    Ok(actions)
+}
+
+// How many words the array has.
+fn published<M: Memory>(rt: &impl Abort, memory: &M) -> u32
+    requires { 2080 ≤ length (M.device memory.now).cached }
+    ensures { result ≡ arrays.capacity (M.device memory.now).cached 2064 }
+{
+    let count = memory.load(HEADER);
+    assert!(rt; count <= 12);
+    capacity(count as u32)
+}
+
+// The place of a word of the array.
+fn place<M: Memory>(rt: &impl Abort, memory: &M, index: u32) -> Place
+    requires size { 2080 ≤ length (M.device memory.now).cached }
+    requires rule { Keeps (M.device memory.now).cached (array_rule 2064) }
+{
+    assert!(rt; index < published(rt, memory));
+    place_of(memory, HEADER, index)
+}
+
+#[test]
+fn a_growth_publishes_a_chunk(rt: HostRuntime) -> Result<(), Fail> {
+    let (mut memory, mut heap) = ready(rt.alloc(), 1)?;
+    assert_eq!(rt; grow(rt.alloc(), &mut memory, &mut heap)?, 21);
+    for (place, word) in [(2064, 1), (2065, 4_294_969_856), (5, 17), (2600, 0)] {
+        assert_eq!(rt; memory.load(Place(place)), word);
+    }
+    Ok(())
+}
+
+// The first five chunks are in segment 0, and each other one is in a segment of its own from its second page on.
+#[test]
+fn twelve_growths_fill_an_array(rt: HostRuntime) -> Result<(), Fail> {
+    let (mut memory, mut heap) = ready(rt.alloc(), 8)?;
+    let capacities = [
+        512, 1_536, 3_584, 7_680, 15_872, 32_256, 48_640, 65_024, 81_408, 97_792, 114_176, 130_560,
+    ];
+    for words in capacities {
+        grow(rt.alloc(), &mut memory, &mut heap)?;
+        assert_eq!(rt; published(&rt, &memory), words);
+    }
+    assert_eq!(rt;
+        grow(rt.alloc(), &mut memory, &mut heap),
+        Err(GrowError::ArrayFull)
+    );
+    assert_eq!(rt; published(&rt, &memory), 130_560);
+    let places = [
+        (0, 2_560),
+        (511, 3_071),
+        (512, 3_072),
+        (1_535, 4_095),
+        (1_536, 4_096),
+        (15_871, 18_431),
+        (15_872, 33_280),
+        (130_559, 246_271),
+    ];
+    for (index, at) in places {
+        assert_eq!(rt; place(&rt, &memory, index), Place(at));
     }
     Ok(())
 }

@@ -1,4 +1,4 @@
-use Rattle.std.proofs.Common.{◌∙◌, ℕ, List, ap, sym, subst}
+use Rattle.std.proofs.Common.{◌∙◌, ℕ, List, ap, sym, subst, arith}
 use Rattle.pm_model.specs.Device.{Device}
 use Rattle.pm_model.specs.Plans.{MayPlay, at_rest}
 use Rattle.heap_palloc.specs.Index.{IsIndexOf}
@@ -10,7 +10,7 @@ use Rattle.seg_array.proofs.tests.growth.Goals as goal
 pub plan_grow-requires : goal.plan_grow-requires
 plan_grow-requires g c =
     let words = ap (λ (d : Device). d.cached) c.requires in
-    subst (λ (xs : List ℕ). MayPlanGrowth xs c.in_ok-heap.heap 0 2064) (sym words) (image_may_grow c.in_ok-heap.heap (subst (λ (xs : List ℕ). IsIndexOf xs c.in_ok-heap.heap) words c.in_ok-heap.ensures))
+    subst (λ (xs : List ℕ). MayPlanGrowth xs c.in_ok-heap.heap 0 2064) (sym words) (image_may_grow 1 (omega arith) c.in_ok-heap.heap (subst (λ (xs : List ℕ). IsIndexOf xs c.in_ok-heap.heap) words c.in_ok-heap.ensures))
 
 pub returns : goal.returns
 returns g c =
