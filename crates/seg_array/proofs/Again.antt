@@ -22,7 +22,7 @@ use Rattle.heap_palloc.proofs.Stages.{place_in-pointer}
 use Rattle.pm_model.specs.Arrays.{chunk_pages, chunk_words, chunk_count, chunk_pointer_at, is_chunk_pointer, array_rule}
 use Rattle.seg_array.specs.Growth.{Growth, next_pointer_at, next_chunk, chunk_block, growth_parts, MayGrow}
 use Rattle.seg_array.specs.Calls.{MayPlanGrowth, IsGrowthPlanned}
-use Rattle.seg_array.proofs.Headers.{pointer_rule, behind_null, array_from}
+use Rattle.seg_array.proofs.Headers.{pointer_rule, behind_null, array_from, points_same}
 use Rattle.seg_array.proofs.Growing.{header_elsewhere, header_outside, in_image, in_segment, ends_count, ends_idle, ends_heap}
 use Rattle.seg_array.proofs.Whole.{taken, taken_at, owned_at, growth_ended, growth_allocates, growth_owned}
 
@@ -86,10 +86,6 @@ module _ (base : List ℕ) (g : Growth) (may : MayGrow base g) where
   size : length (finished (growth_parts base g) base) ≡ length base
   size = (growth_ended base g may).0.keeps.size
 
-  -- such a pointer is read with the length of the image alone
-  points_same : (words pointer : ℕ) → is_pointer_to (finished (growth_parts base g) base) words pointer ≡ is_pointer_to base words pointer
-  points_same words pointer = ap (λ (n : ℕ). (eqb pointer (pointer_word (place_in pointer)) && ltb (place_in pointer) n) && leb (place_in pointer % 32768 + words) 32768) size
-
   chunk_named : is_pointer_to base (chunk_words (chunk_count base g.header)) (pointer_word (page_at g.first)) ≡ true
   chunk_named =
       let some : 0 < chunk_pages (chunk_count base g.header) = pow_pos (min (chunk_count base g.header) 5) in
@@ -99,7 +95,7 @@ module _ (base : List ℕ) (g : Growth) (may : MayGrow base g) where
       → is_pointer_to (finished (growth_parts base g) base) (chunk_words chunk) (get_or (finished (growth_parts base g) base) (chunk_pointer_at g.header chunk) 0) ≡ true
   after_published keeps chunk lt below =
       ap (is_pointer_to (finished (growth_parts base g) base) (chunk_words chunk)) (after_pointer chunk lt (λ e. omega (arith, e, below)))
-      ∙ points_same (chunk_words chunk) (get_or base (chunk_pointer_at g.header chunk) 0)
+      ∙ points_same base (finished (growth_parts base g) base) size (chunk_words chunk) (get_or base (chunk_pointer_at g.header chunk) 0)
       ∙ sym (cond-true (ltb chunk (chunk_count base g.header)) _ _ (lt-ltb chunk (chunk_count base g.header) below)) ∙ pointer_rule base g.header keeps chunk lt
 
   after_gained : (chunk : ℕ) → chunk ≡ chunk_count base g.header
@@ -108,7 +104,7 @@ module _ (base : List ℕ) (g : Growth) (may : MayGrow base g) where
       let P : ℕ → Type 0 = λ k. is_pointer_to (finished (growth_parts base g) base) (chunk_words k) (get_or (finished (growth_parts base g) base) (chunk_pointer_at g.header k) 0) ≡ true in
       subst P (sym is)
       (ap (is_pointer_to (finished (growth_parts base g) base) (chunk_words (chunk_count base g.header))) (growth_ended base g may).0.chunk.named
-      ∙ points_same (chunk_words (chunk_count base g.header)) (pointer_word (page_at g.first)) ∙ chunk_named)
+      ∙ points_same base (finished (growth_parts base g) base) size (chunk_words (chunk_count base g.header)) (pointer_word (page_at g.first)) ∙ chunk_named)
 
   after_chunk : Keeps base (array_rule g.header) → (chunk : ℕ) → chunk < 12
       → is_chunk_pointer (finished (growth_parts base g) base) (chunk_count base g.header + 1) chunk (get_or (finished (growth_parts base g) base) (chunk_pointer_at g.header chunk) 0) ≡ true

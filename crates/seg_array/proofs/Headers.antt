@@ -1,5 +1,5 @@
 -- What the rule of an array says of its chunks.
-use Rattle.std.proofs.Common.{◌≡◌, ⊎_elim, ℕ, ◌+◌, ◌%◌, ◌<◌, ◌≤◌, true, false, eqb, leb, ltb, List, ◌∷◌, length, map, get_or, refl, sym, ◌∙◌, subst, arith}
+use Rattle.std.proofs.Common.{◌≡◌, ⊎_elim, ℕ, ◌+◌, ◌%◌, ◌<◌, ◌≤◌, Bool, true, false, ◌&&◌, ◌||◌, cond, eqb, leb, ltb, List, ◌∷◌, length, map, get_or, refl, sym, ◌∙◌, ap, subst, arith}
 use Rattle.std.specs.Prelude.{Contains, All}
 use Rattle.std.proofs.lemmas.Bool.{cond-true, cond-false, lt-ltb, le-ltb, le-leb, leb-true, ltb-true, eqb-true, eq-eqb, ne_eqb, and_parts, or_cases}
 use Rattle.std.proofs.lemmas.List.Elements.{All-contains, All-contains_itself}
@@ -8,7 +8,7 @@ use Rattle.pm_model.specs.Places.{below, place_in, is_pointer, is_in_segment, is
 use Rattle.pm_model.specs.Checks.{Check, check, Keeps}
 use Rattle.pm_model.proofs.Heap.{Holds}
 use Rattle.pm_model.proofs.Members.{below-Contains, Contains-below, Contains-here, Contains-there, Contains-cons, Contains-map, map-Contains}
-use Rattle.pm_model.specs.Arrays.{chunk_words, capacity_of, chunk_of, offset_of, chunk_count, chunk_pointer_at, is_chunk_pointer, array_rule, capacity}
+use Rattle.pm_model.specs.Arrays.{chunk_words, capacity_of, chunk_of, offset_of, chunk_count, chunk_pointer_at, is_chunk_pointer, array_rule, capacity, place_of}
 use Rattle.seg_array.proofs.Sizes.{capacity_next, chunk_below}
 
 -- a chunk's words lie in the image, and in one segment
@@ -112,3 +112,29 @@ module _ (words : List ℕ) (header : ℕ) where
         (λ rest. let (chunk, among, at) = Contains-map pointer_here (below 12) c rest in subst Holds at (each chunk (Contains-below 12 chunk among)))
         (Contains-cons count_here c (map pointer_here (below 12)) is));
   }
+
+-- ── what is read of an array ──
+
+-- such a pointer is read with the length of the image alone
+pub points_same : (old new : List ℕ) → length new ≡ length old → (words pointer : ℕ) → is_pointer_to new words pointer ≡ is_pointer_to old words pointer
+points_same old new size words pointer = ap (λ (n : ℕ). (eqb pointer (pointer_word (place_in pointer)) && ltb (place_in pointer) n) && leb (place_in pointer % 32768 + words) 32768) size
+
+module _ (old new : List ℕ) (header : ℕ) (size : length new ≡ length old) (same : (k : ℕ) → k < 13 → get_or new (header + k) 0 ≡ get_or old (header + k) 0) where
+  count_same : get_or new header 0 ≡ get_or old header 0
+  count_same = let at : header + 0 ≡ header = omega arith in subst (λ (w : ℕ). get_or new w 0 ≡ get_or old w 0) at (same 0 (omega arith))
+
+  pointer_same : (chunk : ℕ) → chunk < 12 → get_or new (chunk_pointer_at header chunk) 0 ≡ get_or old (chunk_pointer_at header chunk) 0
+  pointer_same chunk lt = let at : header + (chunk + 1) ≡ header + 1 + chunk = omega arith in subst (λ (w : ℕ). get_or new w 0 ≡ get_or old w 0) at (same (chunk + 1) (omega (arith, lt)))
+
+  pub array_same : Keeps old (array_rule header) → Keeps new (array_rule header)
+  array_same keeps = array_from new header (let most = at_most_12 old header keeps in omega (arith, count_same, most)) (λ chunk lt.
+      ap (λ (b : Bool). cond (ltb chunk (chunk_count new header)) b (cond (eqb chunk (chunk_count new header)) (eqb (get_or new (chunk_pointer_at header chunk) 0) 0 || b) (eqb (get_or new (chunk_pointer_at header chunk) 0) 0)))
+      (points_same old new size (chunk_words chunk) (get_or new (chunk_pointer_at header chunk) 0))
+      ∙ ap (λ (n : ℕ). is_chunk_pointer old n chunk (get_or new (chunk_pointer_at header chunk) 0)) count_same
+      ∙ ap (λ (p : ℕ). is_chunk_pointer old (chunk_count old header) chunk p) (pointer_same chunk lt) ∙ pointer_rule old header keeps chunk lt)
+
+  pub places_same : Keeps old (array_rule header) → (index : ℕ) → index < capacity old header → place_of new header index ≡ place_of old header index
+  places_same keeps index lt =
+      let most = at_most_12 old header keeps in
+      let below = (index_chunk old header keeps index lt).0 in
+      ap (λ (word : ℕ). place_in word + offset_of index) (pointer_same (chunk_of index) (omega (arith, below, most)))

@@ -1,5 +1,5 @@
-// What the growth of an array keeps through each power cut, whatever is played beside it.
-ghost use Rattle.std.specs.Prelude.{◌≡◌, ◌≢◌, ◌⊎◌, ℕ, [], List, IsTrue, length, slice_index};
+// What an array reads, and what its growth keeps through each power cut, whatever is played beside it.
+ghost use Rattle.std.specs.Prelude.{◌≡◌, ◌≢◌, ◌⊎◌, ℕ, ◌+◌, ◌<◌, [], List, IsTrue, length, slice_index};
 ghost use Rattle.pm_model.specs.declared.action.Action.{Action};
 ghost use Rattle.pm_model.specs.Device.{Device, IsClean};
 ghost use Rattle.pm_model.specs.Plans.{Play, IsPlaying, IsPlan, IsCrashImageWithin, IsTakenBack, finished, footprint, plan_of};
@@ -9,10 +9,19 @@ ghost use Rattle.heap_palloc.specs.Calls.{KeepsHeapRules};
 ghost use Rattle.heap_palloc.specs.Index.{HeapIndex};
 ghost use Rattle.heap_palloc.specs.Lane.{mended_lane};
 ghost use Rattle.heap_palloc.specs.Shown.{GainsOne};
-ghost use Rattle.pm_model.specs.Arrays.{array_rule};
+ghost use Rattle.pm_model.specs.Arrays.{array_rule, capacity, place_of};
 ghost use Rattle.seg_array.specs.Calls.{MayPlanGrowth, IsGrowthPlanned};
 ghost use Rattle.seg_array.specs.Growth.{Growth, next_pointer_at, next_chunk, chunk_block, growth_parts, MayGrow, SameGrowthRead};
 ghost use Rattle.seg_array.specs.Shown.{IsUngrown, IsGrown};
+
+/// What is read of an array: where the count and the pointers of its header are the same, its rule holds, and no word of
+/// it moved.
+pub fn array_law()
+    ensures rule { (old new : List ℕ) (header : ℕ) → length new ≡ length old → ((k : ℕ) → k < 13 → slice_index new (header + k) ≡ slice_index old (header + k)) →
+        Keeps old (array_rule header) → Keeps new (array_rule header) }
+    ensures places { (old new : List ℕ) (header : ℕ) → length new ≡ length old → ((k : ℕ) → k < 13 → slice_index new (header + k) ≡ slice_index old (header + k)) →
+        Keeps old (array_rule header) → (index : ℕ) → index < capacity old header → place_of new header index ≡ place_of old header index }
+{}
 
 /// A growth: the lane mended, each image has the capacity before, or the capacity after and new words of 0. After the last
 /// action it is the capacity after.
