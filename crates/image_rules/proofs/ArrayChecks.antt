@@ -3,15 +3,16 @@ use Rattle.std.proofs.Common.{◌≡◌, ℕ, ◌+◌, ◌*◌, ◌<◌, ◌≤�
 use Rattle.std.specs.Prelude.{Option, None, Some}
 use Rattle.std.specs.Option.{is_some}
 use Rattle.std.specs.List.{flat_map}
-use Rattle.std.proofs.lemmas.Bool.{le-leb, lt-leb}
+use Rattle.std.proofs.lemmas.Bool.{le-leb, lt-leb, leb-true}
 use Rattle.std.proofs.lemmas.List.Folds.{flat_map-map}
 use Rattle.pm_model.specs.Places.{below}
 use Rattle.pm_model.specs.Records.{column_at, columns_at, created_header, ended_header, codes_header, dictionary_header}
 use Rattle.pm_model.specs.Arrays.{array_rule, chunk_count, chunk_pointer_at, is_chunk_pointer}
 use Rattle.pm_model.specs.Tables.{table_count, table_block, table_blocks, array_headers, column_headers, columns_of}
-use Rattle.pm_model.specs.Checks.{Check, check, first_failing}
+use Rattle.pm_model.specs.Checks.{Check, check, Keeps, first_failing}
 use Rattle.pm_model.specs.EntryRules.{arrays_rule}
-use Rattle.image_rules.proofs.Firsts.{passes, fails, map_none, map_some, flat_none, flat_found, found_none, first_of, then_rest, then_last, flat_map-flat_map}
+use Rattle.pm_model.proofs.Faults.{first_failing-none}
+use Rattle.image_rules.proofs.Firsts.{flat_part, none-head, none-append, passes, fails, map_none, map_some, flat_none, flat_found, found_none, first_of, then_rest, then_last, flat_map-flat_map}
 
 module _ (words : List ℕ) where
   -- ── one array ──
@@ -126,7 +127,7 @@ module _ (words : List ℕ) where
   abbrev pub TablesBelow : ℕ → Type 0
   TablesBelow k = (x : ℕ) → x < k → first_failing (block_checks (table_block words x)) ≡ None
 
-  by_table : first_failing (arrays_rule words) ≡ first_failing (flat_map table_checks (below (table_count words)))
+  pub by_table : first_failing (arrays_rule words) ≡ first_failing (flat_map table_checks (below (table_count words)))
   unfolding arrays_rule
   by_table = ap first_failing (flat_map-map block_checks (table_block words) (below (table_count words)))
 
@@ -140,3 +141,20 @@ module _ (words : List ℕ) where
 
   pub tables_none : TablesBelow (table_count words) → None ≡ first_failing (arrays_rule words)
   tables_none each = sym (by_table ∙ flat_none table_checks (table_count words) each)
+
+  -- ── what kept rules say ──
+
+  pub count_kept : (header : ℕ) → first_failing (array_rule header words) ≡ None → get_or words header 0 ≤ 12
+  unfolding array_rule
+  count_kept header none = leb-true (get_or words header 0) 12 (none-head (count_check header) (map (chunk_check header) (below 12)) none).0
+
+  pub table_kept : Keeps words arrays_rule → (k : ℕ) → k < table_count words → first_failing (block_checks (table_block words k)) ≡ None
+  table_kept keeps k lt = flat_part table_checks (table_count words) k lt (sym by_table ∙ first_failing-none (arrays_rule words) keeps.checks)
+
+  pub created_kept : (block : ℕ) → first_failing (block_checks block) ≡ None → get_or words (created_header block) 0 ≤ 12
+  created_kept block none = count_kept (created_header block) (none-append (array_checks (created_header block)) (array_checks (ended_header block) ++ of_columns block) none).0
+
+  pub ended_kept : (block : ℕ) → first_failing (block_checks block) ≡ None → get_or words (ended_header block) 0 ≤ 12
+  ended_kept block none =
+      count_kept (ended_header block)
+      (none-append (array_checks (ended_header block)) (of_columns block) (none-append (array_checks (created_header block)) (array_checks (ended_header block) ++ of_columns block) none).1).0

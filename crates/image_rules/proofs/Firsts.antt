@@ -37,6 +37,20 @@ fail-first (c ∷ xs) ys p some =
     (λ miss. fails c (xs ++ ys) miss ∙ sym (fails c xs miss) ∙ some)
     (cases_Bool c.holds)
 
+-- where none fails, none of the first ones does, and none of the others
+pub none-append : (xs ys : List Check) → first_failing (xs ++ ys) ≡ None → (first_failing xs ≡ None) × (first_failing ys ≡ None)
+none-append [] ys none = (refl, none)
+none-append (c ∷ xs) ys none =
+    ⊎_elim (λ hit. let parts = none-append xs ys (sym (passes c (xs ++ ys) hit) ∙ none) in (passes c xs hit ∙ parts.0, parts.1))
+    (λ miss. absurd (none-some c.place (sym none ∙ fails c (xs ++ ys) miss)))
+    (cases_Bool c.holds)
+
+pub none-head : (c : Check) (xs : List Check) → first_failing (c ∷ xs) ≡ None → (c.holds ≡ true) × (first_failing xs ≡ None)
+none-head c xs none =
+    ⊎_elim (λ hit. (hit, sym (passes c xs hit) ∙ none))
+    (λ miss. absurd (none-some c.place (sym none ∙ fails c xs miss)))
+    (cases_Bool c.holds)
+
 -- what was found in the first ones, or else in the others
 pub first_of : (xs ys : List Check) (found : Option ℕ) → found ≡ first_failing xs → is_some found ≡ true → found ≡ first_failing (xs ++ ys)
 first_of xs ys None here some = absurd (false≢true some)
@@ -72,6 +86,18 @@ module _ (f : ℕ → List Check) where
 
   pub flat_some : (n k p : ℕ) → k < n → ((x : ℕ) → x < k → first_failing (f x) ≡ None) → first_failing (f k) ≡ Some p → first_failing (flat_map f (below n)) ≡ Some p
   flat_some n k p lt each found = some_from n 0 k p (omega arith) (omega arith) (λ x low high. each x high) found
+
+  -- where none of them fails, none of those for one number does
+  none_at : (n from k : ℕ) → from ≤ k → k < from + n → first_failing (flat_map f (range_with_len from n)) ≡ None → first_failing (f k) ≡ None
+  none_at zero from k low high none = absurd (omega arith)
+  none_at (suc n) from k low high none =
+      let parts = none-append (f from) (flat_map f (range_with_len (from + 1) n)) none in
+      ⊎_elim (λ (e : from ≡ k). ap (λ (x : ℕ). first_failing (f x)) (sym e) ∙ parts.0)
+      (λ apart. none_at n (from + 1) k (omega (arith, apart)) (omega arith) parts.1)
+      (cases_eq from k)
+
+  pub flat_part : (n k : ℕ) → k < n → first_failing (flat_map f (below n)) ≡ None → first_failing (f k) ≡ None
+  flat_part n k lt none = none_at n 0 k (omega arith) (omega arith) none
 
   -- what was found for one number, where nothing was for those before it
   pub flat_found : (n k : ℕ) (found : Option ℕ) → k < n → ((x : ℕ) → x < k → first_failing (f x) ≡ None) → found ≡ first_failing (f k) → is_some found ≡ true
@@ -116,3 +142,11 @@ flat_map-filter f test (x ∷ xs) =
 pub flat_map-flat_map : {X Y A : Type 0} (h : Y → List A) (g : X → List Y) (xs : List X) → flat_map h (flat_map g xs) ≡ flat_map (λ x. flat_map h (g x)) xs
 flat_map-flat_map h g [] = refl
 flat_map-flat_map h g (x ∷ xs) = flat_map-append h (g x) (flat_map g xs) ∙ ap (λ (ys : List _). flat_map h (g x) ++ ys) (flat_map-flat_map h g xs)
+
+-- numbers from one on
+pub map-range : (f : ℕ → ℕ) (n a b : ℕ) → ((k : ℕ) → k < n → f (a + k) ≡ b + k) → map f (range_with_len a n) ≡ range_with_len b n
+map-range f zero a b each = refl
+map-range f (suc n) a b each =
+    let first : f a ≡ b = ap f (omega arith) ∙ each 0 (omega arith) ∙ omega arith in
+    ap (λ (x : ℕ). x ∷ map f (range_with_len (a + 1) n)) first
+    ∙ ap (λ (xs : List ℕ). b ∷ xs) (map-range f n (a + 1) (b + 1) (λ k lt. ap f (omega arith) ∙ each (k + 1) (omega (arith, lt)) ∙ omega arith))

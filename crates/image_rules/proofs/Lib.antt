@@ -7,3 +7,4 @@ pub mod TableChecks
 pub mod ArrayChecks
 pub mod Capacities
 pub mod NameChecks
+pub mod EntryChecks
