@@ -1,4 +1,5 @@
 pub mod Changes
+pub mod Clearing
 pub mod Gathered
 pub mod Parts
 pub mod Steps

@@ -1,12 +1,14 @@
 -- Which numbers have something to mend, and the plans of steps that make one store.
-use Rattle.std.proofs.Common.{◌≡◌, ◌≢◌, ◌⊎◌, ⊎_elim, ℕ, ◌+◌, ◌<◌, ◌≤◌, Bool, true, false, not, ◌&&◌, cond, eqb, List, [], ◌∷◌, ◌++◌, get_or, max, map, refl, sym, ◌∙◌, ap, subst, arith}
+use Rattle.std.proofs.Common.{◌≡◌, ◌≢◌, ◌⊎◌, ⊎_elim, ℕ, ◌+◌, ◌<◌, ◌≤◌, Bool, true, false, not, ◌&&◌, cond, eqb, List, [], ◌∷◌, ◌++◌, length, get_or, max, map, refl, sym, ◌∙◌, ap, subst, arith}
 use Rattle.std.specs.Prelude.{fold}
-use Rattle.std.proofs.lemmas.Bool.{cases_eq, eqb-true, eqb-false, ne_eqb, eq-eqb, and_parts, cond-true, cond-false}
+use Rattle.std.proofs.lemmas.Bool.{both_ways, eqb-true, ne_eqb, eq-eqb, and_parts, cond-true, cond-false}
+use Rattle.std.proofs.lemmas.List.{length-append}
 use Rattle.std.proofs.lemmas.List.FromFn.{map-range_with_len_more}
 use Rattle.pm_model.specs.declared.action.Action.{Action}
+use Rattle.pm_model.specs.declared.action.Action.TheVariants.{Flush, Fence}
 use Rattle.pm_model.specs.Fixed.{state_at, commit_word_at, last_at}
 use Rattle.pm_model.specs.Places.{below}
-use Rattle.pm_model.specs.Plans.{Part, one_store, part_actions, plan_of, unless_empty, words_after}
+use Rattle.pm_model.specs.Plans.{Part, lines_of, one_store, part_actions, part_end, plan_of, unless_empty, words_after}
 use Rattle.pm_model.specs.Needed.{needed_stores, needed_parts}
 use Rattle.pm_model.specs.Objects.{is_open, commit_word, open_commit, last_commit}
 use Rattle.shown_state.specs.Mending.{Mending, close_mending, last_mending}
@@ -68,3 +70,25 @@ module _ (words : List ℕ) (number : ℕ) where
 
   pub no_raising : get_or words last_at 0 ≡ last_commit words → step_parts (λ n. last_mending) words number ≡ []
   no_raising there = last-parts words number ∙ unneeded-store words last_at (last_commit words) there
+
+-- ── plans that may be empty ──
+
+part_some : (part : Part) (later : List Action) → part_actions part ++ later ≢ []
+part_some part later none =
+    let len : length ((part ++ part_end part) ++ later) ≡ 0 = ap length none in
+    let a = length-append (part ++ part_end part) later in
+    let b = length-append part (part_end part) in
+    let d = length-append (map (λ line. Flush line) (lines_of part)) (Fence ∷ []) in
+    omega (arith, len, a, b, d)
+
+pub plan-none : (parts : List Part) → plan_of parts ≡ [] → parts ≡ []
+plan-none [] none = refl
+plan-none (part ∷ parts) none = absurd (part_some part (plan_of parts) none)
+
+-- a plan of a number's parts, by whether it is empty
+module _ (parts : List Part) (left : List Action) (is_empty : Bool) (is : left ≡ plan_of parts) where
+  pub none-planned : (is_empty ≡ true → left ≡ []) × (left ≡ [] → is_empty ≡ true) → is_empty ≡ true → parts ≡ []
+  none-planned empty hit = plan-none parts (sym is ∙ empty.0 hit)
+
+  pub some-planned : (is_empty ≡ true → left ≡ []) × (left ≡ [] → is_empty ≡ true) → is_empty ≡ false → parts ≢ []
+  some-planned empty miss none = both_ways is_empty miss (empty.1 (is ∙ ap plan_of none))

@@ -6,6 +6,7 @@
 #![tactic(auto)]
 
 mod change;
+mod clear;
 mod entries;
 mod entry;
 mod error;
@@ -15,6 +16,7 @@ mod objects;
 mod part;
 mod layout;
 
+pub use clear::next_clear;
 pub use entry::check_entry;
 pub use error::EntryError;
 pub use lanes::next_lane;
