@@ -1,5 +1,9 @@
 pub mod Clears
+pub mod Lines
 pub mod Places
+pub mod Planning
+pub mod Readying
 pub mod Rule
 pub mod Runs
+pub mod Taken
 pub mod Walk

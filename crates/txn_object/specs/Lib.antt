@@ -1,3 +1,5 @@
+pub mod Calls
 pub mod EntryListState
 pub mod Entries
+pub mod Extension
 pub mod Object

@@ -3,11 +3,15 @@
 #![tactic(auto)]
 
 mod entry;
+mod error;
+mod extend;
 mod object;
 mod reading;
 mod segments;
 
 pub use entry::{Entry, EntryKind, EntryList};
+pub use error::ExtendError;
+pub use extend::plan_extend;
 pub use object::{plan_begin, push_entry, push_retire};
 pub use pm_model::NoMemory;
 pub use reading::{entries, free_entries};
