@@ -1,0 +1,5 @@
+pub mod Creating
+pub mod Filled
+pub mod Filling
+pub mod Lengths
+pub mod Planning

@@ -1,0 +1,43 @@
+-- What planning a creation relies on, and what it gives.
+use Rattle.std.specs.Prelude.{◌≡◌, ℕ, ◌<◌, ◌≤◌, List, length, slice_index}
+use Rattle.mv_model.specs.declared.shape.Column.{Column}
+use Rattle.pm_model.specs.declared.action.Action.{Action}
+use Rattle.pm_model.specs.Fixed.{lane_op_at, table_slot_at}
+use Rattle.pm_model.specs.Plans.{plan_of, finished}
+use Rattle.pm_model.specs.Records.{table_words}
+use Rattle.pm_model.specs.Tables.{table_count}
+use Rattle.heap_palloc.specs.declared.error.AllocError.{AllocError}
+use Rattle.heap_palloc.specs.declared.error.AllocError.TheVariants.{Full as HeapFull, NoMemory as HeapNoMemory}
+use Rattle.heap_palloc.specs.Calls.{KeepsHeapRules}
+use Rattle.heap_palloc.specs.Choice.{Choice, IsChosen}
+use Rattle.heap_palloc.specs.Index.{HeapIndex, IsIndexOf}
+use Rattle.catalog.specs.declared.error.CreateError.{CreateError}
+use Rattle.catalog.specs.declared.error.CreateError.TheVariants.{Full, NoMemory}
+use Rattle.catalog.specs.Creation.{new_block, creation_parts, MayCreate}
+use Rattle.catalog.specs.Entries.{CatalogTable, published_tables}
+
+-- The heap's rules hold, the index and the catalog stand for the words, the lane is idle, there are at most 32 tables, and
+-- the table slot at their count is null.
+pub record MayPlanCreation (words : List ℕ) (index : HeapIndex) (tables : List CatalogTable) (lane : ℕ) : Type 0 where
+  pub rules : KeepsHeapRules words
+  pub index_of : IsIndexOf words index
+  pub tables_of : tables ≡ published_tables words
+  pub lane_is : lane < 16
+  pub idle : slice_index words (lane_op_at lane) ≡ 0
+  pub most : table_count words ≤ 32
+  pub slot : table_count words < 32 → slice_index words (table_slot_at (table_count words)) ≡ 0
+
+-- A creation is planned: these actions, and a block that begins at this place, chosen as the heap chooses. Once the plan was
+-- played, the index stands for the words.
+pub record IsCreationPlanned (words : List ℕ) (old new : HeapIndex) (lane : ℕ) (name : List ℕ) (columns : List Column) (first : ℕ) (plan : List Action) : Type 0 where
+  pub choice : Choice
+  pub chosen : IsChosen words old.free.runs (table_words (length columns)) choice
+  pub may : MayCreate words (record { lane = lane; choice = choice; name = name; columns = columns })
+  pub first_is : first ≡ new_block (record { lane = lane; choice = choice; name = name; columns = columns })
+  pub plan_is : plan ≡ plan_of (creation_parts words (record { lane = lane; choice = choice; name = name; columns = columns }))
+  pub index_of : IsIndexOf (finished (creation_parts words (record { lane = lane; choice = choice; name = name; columns = columns })) words) new
+
+-- an error of the heap as one of a creation
+abbrev pub create_error : AllocError → CreateError
+create_error (HeapFull need largest) = Full need largest
+create_error HeapNoMemory = NoMemory

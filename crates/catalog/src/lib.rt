@@ -1,0 +1,11 @@
+//! The published tables: their names, columns and blocks, and the plan that creates one.
+#![tactic(auto)]
+
+mod create;
+mod error;
+mod tables;
+mod words;
+
+pub use error::CreateError;
+pub use pm_model::NoMemory;
+pub use tables::Catalog;
