@@ -1,4 +1,6 @@
 pub mod Clears
+pub mod Entering
+pub mod Frames
 pub mod Lines
 pub mod Places
 pub mod Planning

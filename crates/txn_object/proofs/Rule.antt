@@ -1,8 +1,9 @@
 -- What the rule of an object says of its segments.
-use Rattle.std.proofs.Common.{◌≡◌, ◌≢◌, ⊎_elim, ℕ, zero, suc, ◌+◌, ◌-◌, ◌%◌, ◌^◌, ◌<◌, ◌≤◌, min, true, false, not, eqb, leb, ltb, List, [], ◌∷◌, ◌++◌, length, map, get_or, refl, sym, ◌∙◌, arith}
+use Rattle.std.proofs.Common.{◌≡◌, ◌≢◌, ⊎_elim, ℕ, zero, suc, ◌+◌, ◌-◌, ◌%◌, ◌^◌, ◌<◌, ◌≤◌, min, true, false, not, eqb, leb, ltb, List, [], ◌∷◌, ◌++◌, length, map, get_or, refl, sym, ◌∙◌, subst, arith}
 use Rattle.std.specs.Prelude.{Contains}
-use Rattle.std.proofs.lemmas.Bool.{leb-true, ltb-true, eqb-true, and_parts, or_cases, not-true}
-use Rattle.std.proofs.lemmas.List.Elements.{All-contains, Contains-append_left, Contains-append_right}
+use Rattle.std.proofs.lemmas.Bool.{leb-true, le-leb, ltb-true, eqb-true, and_parts, or_cases, not-true}
+use Rattle.std.proofs.lemmas.List.Elements.{All-contains, All-cons, All-append, All-map, Contains-append_left, Contains-append_right}
+use Rattle.std.proofs.lemmas.List.FromFn.{length-range_with_len, get_or-range_with_len}
 use Rattle.pm_model.specs.Pointer.{pointer_word}
 use Rattle.pm_model.specs.Fixed.{state_at, commit_word_at, ready_at, last_at}
 use Rattle.pm_model.specs.Places.{below, place_in, is_pointer, is_in_segment, is_pointer_to, is_null_or_pointer_to}
@@ -71,7 +72,21 @@ module _ (words : List ℕ) (object : ℕ) (keeps : Keeps words (object_rule obj
       (Contains-there (state_check words object) (ready_check words object) (commit_check words object ∷ ready_check words object ∷ r)
       (Contains-there (commit_check words object) (ready_check words object) (ready_check words object ∷ r) (Contains-here (ready_check words object) r))))
 
-  pointer_rule : (segment : ℕ) → segment < ready_count words object → is_segment_pointer words object segment ≡ true
+  pub state_ok : get_or words (state_at object) 0 ≤ 1
+  state_ok =
+      let r = map (pointer_check words object) (below (ready_count words object)) ++ after_check words object ∷ [] in
+      leb-true (get_or words (state_at object) 0) 1 (holds (state_check words object) (Contains-here (state_check words object) (commit_check words object ∷ ready_check words object ∷ r)))
+
+  pub commit_ok : leb (commit_word words object) (min (get_or words last_at 0 + 1) (2 ^ 40 - 1)) ≡ true
+  commit_ok =
+      let r = map (pointer_check words object) (below (ready_count words object)) ++ after_check words object ∷ [] in
+      holds (commit_check words object) (Contains-there (state_check words object) (commit_check words object) (commit_check words object ∷ ready_check words object ∷ r) (Contains-here (commit_check words object) (ready_check words object ∷ r)))
+
+  pub after_ok : is_null_or_pointer_to words 256 (get_or words (pointer_after words object) 0) ≡ true
+  after_ok = behind (after_check words object)
+      (Contains-append_right (map (pointer_check words object) (below (ready_count words object))) (after_check words object ∷ []) (after_check words object) (Contains-here (after_check words object) []))
+
+  pub pointer_rule : (segment : ℕ) → segment < ready_count words object → is_segment_pointer words object segment ≡ true
   pointer_rule segment lt = behind (pointer_check words object segment)
       (Contains-append_left (map (pointer_check words object) (below (ready_count words object))) (after_check words object ∷ []) (pointer_check words object segment)
       (map-Contains (pointer_check words object) (below (ready_count words object)) segment (below-Contains (ready_count words object) segment lt)))
@@ -101,3 +116,22 @@ module _ (words : List ℕ) (object : ℕ) (keeps : Keeps words (object_rule obj
   pub pointer_in : 2048 ≤ length words → object < 16 → (segment : ℕ) → segment ≤ ready_count words object → segment_pointer_at words object segment < length words
   pointer_in size number zero le = omega (arith, size, number)
   pointer_in size number (suc segment) le = (named segment (omega (arith, le))).begins
+
+-- and what makes the rule hold
+pub rule_from : (words : List ℕ) (object : ℕ) → get_or words (state_at object) 0 ≤ 1 → leb (commit_word words object) (min (get_or words last_at 0 + 1) (2 ^ 40 - 1)) ≡ true → ready_count words object ≤ 32
+    → ((segment : ℕ) → segment < ready_count words object → is_segment_pointer words object segment ≡ true) → is_null_or_pointer_to words 256 (get_or words (pointer_after words object) 0) ≡ true → Keeps words (object_rule object)
+unfolding object_rule
+rule_from words object state commit ready pointers after = record {
+  checks =
+      let last = after_check words object ∷ [] in
+      let segments = map (pointer_check words object) (below (ready_count words object)) in
+      All-cons Holds (state_check words object) (commit_check words object ∷ ready_check words object ∷ (segments ++ last)) (le-leb (get_or words (state_at object) 0) 1 state)
+      (All-cons Holds (commit_check words object) (ready_check words object ∷ (segments ++ last)) commit
+      (All-cons Holds (ready_check words object) (segments ++ last) (le-leb (ready_count words object) 32 ready)
+      (All-append Holds segments last
+      (All-map Holds (pointer_check words object) (below (ready_count words object))
+      (λ k d lt. let within : k < ready_count words object = omega (arith, lt, length-range_with_len 0 (ready_count words object)) in
+      let at : get_or (below (ready_count words object)) k d ≡ k = get_or-range_with_len 0 (ready_count words object) k d within ∙ omega arith in
+      subst (λ (n : ℕ). is_segment_pointer words object n ≡ true) (sym at) (pointers k within)))
+      (All-cons Holds (after_check words object) [] after (λ k d lt. absurd (omega (arith, lt)))))));
+}

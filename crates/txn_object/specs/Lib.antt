@@ -3,3 +3,4 @@ pub mod EntryListState
 pub mod Entries
 pub mod Extension
 pub mod Object
+pub mod Shown

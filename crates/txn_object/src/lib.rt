@@ -5,6 +5,7 @@
 mod entry;
 mod error;
 mod extend;
+mod laws;
 mod object;
 mod reading;
 mod segments;
@@ -12,6 +13,7 @@ mod segments;
 pub use entry::{Entry, EntryKind, EntryList};
 pub use error::ExtendError;
 pub use extend::plan_extend;
+pub use laws::{begin_law, entry_law};
 pub use object::{plan_begin, push_entry, push_retire};
 pub use pm_model::NoMemory;
 pub use reading::{entries, free_entries};

@@ -1,0 +1,56 @@
+// What an object's words show through each power cut, whatever is played beside the plan.
+ghost use Rattle.std.specs.Prelude.{◌≡◌, ◌≢◌, ◌⊎◌, ◌↔◌, ℕ, ◌^◌, ◌<◌, [], ◌∷◌, ◌++◌, IsTrue, List, length, slice_index};
+ghost use Rattle.pm_model.specs.declared.action.Action.{Action};
+ghost use Rattle.pm_model.specs.Device.{Device, IsClean};
+ghost use Rattle.pm_model.specs.Fixed.{state_at};
+ghost use Rattle.pm_model.specs.Plans.{Play, IsPlan, footprint, plan_of};
+ghost use Rattle.txn_object.specs.declared.entry.Entry.{Entry};
+ghost use Rattle.txn_object.specs.Entries.{entry_word, entry_of};
+ghost use Rattle.txn_object.specs.Object.{nth_place, begin_parts, entry_part, NoEntryFollowsZero};
+ghost use Rattle.txn_object.specs.Shown.{Transaction, Shows, HasObject, MayEnter, IsCut};
+
+/// A begin: the state before it or 1, and from its last action on 1. The entries stay.
+pub fn begin_law()
+    ensures plan { (words : List ℕ) (object : ℕ) → HasObject words object → IsPlan (length words) (begin_parts object) }
+    ensures writes { (object w : ℕ) → IsTrue (footprint (plan_of (begin_parts object)) w) ↔ (w ≡ state_at object) }
+
+    ensures shows { (object : ℕ) (transaction : Transaction) (play : Play) (left : List Action) (d : Device) (image base : List ℕ) →
+        IsCut play left d image base → play.parts ≡ begin_parts object → HasObject base object → Shows base object transaction →
+        (Shows image object transaction) ⊎ (Shows image object (record transaction { state = 1 })) }
+    ensures others { (object w : ℕ) (play : Play) (left : List Action) (d : Device) (image base : List ℕ) →
+        IsCut play left d image base → play.parts ≡ begin_parts object → w ≢ state_at object → slice_index image w ≡ slice_index base w }
+    ensures ends { (object : ℕ) (transaction : Transaction) (play : Play) (d : Device) (image base : List ℕ) →
+        IsCut play [] d image base → play.parts ≡ begin_parts object → HasObject base object → Shows base object transaction →
+        Shows image object (record transaction { state = 1 }) }
+    ensures clean { (object : ℕ) (play : Play) (d : Device) (image base : List ℕ) →
+        IsCut play [] d image base → play.parts ≡ begin_parts object → IsClean d (state_at object) }
+
+    // The object's rule goes on to hold.
+    ensures object { (object : ℕ) (play : Play) (left : List Action) (d : Device) (image base : List ℕ) →
+        IsCut play left d image base → play.parts ≡ begin_parts object → HasObject base object → HasObject image object }
+{}
+
+/// An entry: the entries before it or one more, and from its last action on one more.
+pub fn entry_law()
+    ensures spelt { (entry : Entry) → entry.table < 2 ^ 24 → entry.row < 2 ^ 32 → entry_of (entry_word entry) ≡ entry }
+    ensures plan { (words : List ℕ) (object nth : ℕ) (entry : Entry) → MayEnter words object nth entry → IsPlan (length words) (entry_part words object nth entry ∷ []) }
+    ensures writes { (words : List ℕ) (object nth w : ℕ) (entry : Entry) →
+        IsTrue (footprint (plan_of (entry_part words object nth entry ∷ [])) w) ↔ (w ≡ nth_place words object nth) }
+
+    ensures shows { (object nth : ℕ) (entry : Entry) (transaction : Transaction) (play : Play) (left : List Action) (d : Device) (image base : List ℕ) →
+        IsCut play left d image base → play.parts ≡ entry_part base object nth entry ∷ [] → MayEnter base object nth entry → Shows base object transaction →
+        (Shows image object transaction) ⊎ (Shows image object (record transaction { entries = transaction.entries ++ entry ∷ [] })) }
+    ensures others { (object nth w : ℕ) (entry : Entry) (play : Play) (left : List Action) (d : Device) (image base : List ℕ) →
+        IsCut play left d image base → play.parts ≡ entry_part base object nth entry ∷ [] → w ≢ nth_place base object nth → slice_index image w ≡ slice_index base w }
+    ensures ends { (object nth : ℕ) (entry : Entry) (transaction : Transaction) (play : Play) (d : Device) (image base : List ℕ) →
+        IsCut play [] d image base → play.parts ≡ entry_part base object nth entry ∷ [] → MayEnter base object nth entry → Shows base object transaction →
+        Shows image object (record transaction { entries = transaction.entries ++ entry ∷ [] }) }
+    ensures clean { (object nth : ℕ) (entry : Entry) (play : Play) (d : Device) (image base : List ℕ) →
+        IsCut play [] d image base → play.parts ≡ entry_part base object nth entry ∷ [] → IsClean d (nth_place base object nth) }
+
+    // The object's rule goes on to hold, and no entry follows a word that is 0.
+    ensures object { (object nth : ℕ) (entry : Entry) (play : Play) (left : List Action) (d : Device) (image base : List ℕ) →
+        IsCut play left d image base → play.parts ≡ entry_part base object nth entry ∷ [] → MayEnter base object nth entry → HasObject image object }
+    ensures packed { (object nth : ℕ) (entry : Entry) (play : Play) (left : List Action) (d : Device) (image base : List ℕ) →
+        IsCut play left d image base → play.parts ≡ entry_part base object nth entry ∷ [] → MayEnter base object nth entry → NoEntryFollowsZero image object }
+{}
