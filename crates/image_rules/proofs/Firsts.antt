@@ -5,6 +5,7 @@ use Rattle.std.specs.Option.{is_some}
 use Rattle.std.specs.Bool.{then_some}
 use Rattle.std.specs.List.{range_with_len, flat_map}
 use Rattle.std.proofs.lemmas.Bool.{cases_Bool, cases_eq, true≢false, false≢true}
+use Rattle.std.proofs.lemmas.List.{map-append}
 use Rattle.std.proofs.lemmas.Option.{none-some}
 use Rattle.std.proofs.lemmas.List.Concat.{flat_map_single, flat_map-append}
 use Rattle.std.proofs.lemmas.List.FromFn.{length-map-range_with_len, get_or-map-range_with_len}
@@ -119,6 +120,13 @@ module _ (f : ℕ → Check) where
   as_flat : (xs : List ℕ) → first_failing (map f xs) ≡ first_failing (flat_map single xs)
   as_flat xs = ap first_failing (sym (flat_map_single f xs))
 
+  pub map_none_from : (n from : ℕ) → ((x : ℕ) → from ≤ x → x < from + n → (f x).holds ≡ true) → first_failing (map f (range_with_len from n)) ≡ None
+  map_none_from n from each = as_flat (range_with_len from n) ∙ none_from single n from (λ x low high. passes (f x) [] (each x low high))
+
+  pub map_some_from : (n from k : ℕ) → from ≤ k → k < from + n → ((x : ℕ) → from ≤ x → x < k → (f x).holds ≡ true) → (f k).holds ≡ false → first_failing (map f (range_with_len from n)) ≡ Some (f k).place
+  map_some_from n from k low high each miss =
+      as_flat (range_with_len from n) ∙ some_from single n from k ((f k).place) low high (λ x above under. passes (f x) [] (each x above under)) (fails (f k) [] miss)
+
   pub map_none : (n : ℕ) → ((x : ℕ) → x < n → (f x).holds ≡ true) → first_failing (map f (below n)) ≡ None
   map_none n each = as_flat (below n) ∙ flat_none single n (λ x lt. passes (f x) [] (each x lt))
 
@@ -150,3 +158,7 @@ map-range f (suc n) a b each =
     let first : f a ≡ b = ap f (omega arith) ∙ each 0 (omega arith) ∙ omega arith in
     ap (λ (x : ℕ). x ∷ map f (range_with_len (a + 1) n)) first
     ∙ ap (λ (xs : List ℕ). b ∷ xs) (map-range f n (a + 1) (b + 1) (λ k lt. ap f (omega arith) ∙ each (k + 1) (omega (arith, lt)) ∙ omega arith))
+
+pub map-flat_map : {X Y A : Type 0} (h : Y → A) (g : X → List Y) (xs : List X) → map h (flat_map g xs) ≡ flat_map (λ x. map h (g x)) xs
+map-flat_map h g [] = refl
+map-flat_map h g (x ∷ xs) = map-append h (g x) (flat_map g xs) ∙ ap (λ (ys : List _). map h (g x) ++ ys) (map-flat_map h g xs)

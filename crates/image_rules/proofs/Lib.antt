@@ -8,3 +8,4 @@ pub mod ArrayChecks
 pub mod Capacities
 pub mod NameChecks
 pub mod EntryChecks
+pub mod RestChecks

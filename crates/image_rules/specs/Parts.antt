@@ -1,12 +1,15 @@
 -- Parts of the rules, which a function of their own tries.
 use Rattle.std.specs.Prelude.{ℕ, ◌+◌, ◌≤◌, List, [], ◌∷◌, ◌++◌, map, length, slice_index}
 use Rattle.std.specs.List.{flat_map}
+use Rattle.pm_model.specs.Fixed.{commit_word_at, state_at}
 use Rattle.pm_model.specs.Places.{below, is_null_or_pointer_to}
 use Rattle.pm_model.specs.Records.{column_name_at, columns_at, table_name_at, table_words}
-use Rattle.pm_model.specs.Objects.{segment_pointer_at}
+use Rattle.pm_model.specs.Objects.{entry_places, segment_pointer_at}
 use Rattle.pm_model.specs.Tables.{columns_of}
-use Rattle.pm_model.specs.Checks.{Check, check}
+use Rattle.pm_model.specs.Checks.{Check, Rule, check}
 use Rattle.pm_model.specs.EntryRules.{is_segment_pointer, kind_check, name_checks}
+use Rattle.pm_model.specs.SoundRules.{zero_check}
+use Rattle.pm_model.specs.Owners.{next_table_slots}
 
 -- the pointers to the first segments of an object, so many of them, and the one after them
 abbrev pub segment_checks : List ℕ → ℕ → ℕ → List Check
@@ -27,3 +30,11 @@ column_name_checks words column = kind_check words column ∷ name_checks words 
 -- a table's name, and the kinds and names of its columns
 abbrev pub table_name_checks : List ℕ → ℕ → List Check
 table_name_checks words block = name_checks words (table_name_at block) ++ flat_map (column_name_checks words) (columns_of words block)
+
+-- 17, as far as it is about table slots: the one at the table count is null
+unfoldable pub next_slot_rule : Rule
+next_slot_rule words = map (zero_check words) (next_table_slots words)
+
+-- an object's state, its commit word and its entries are 0
+abbrev pub object_zeros : List ℕ → ℕ → List Check
+object_zeros words object = map (zero_check words) (state_at object ∷ commit_word_at object ∷ entry_places words object)

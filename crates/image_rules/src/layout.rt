@@ -7,6 +7,9 @@ pub const ALLOCATING: u64 = 1;
 
 pub(crate) const FREEING: u64 = 2;
 
+/// The descriptor of a free page that was given back.
+pub(crate) const GIVEN_BACK: u64 = 1;
+
 /// A small page has the descriptor 2 + its class, which is 0 to 5.
 pub const SMALL_PAGE: u64 = 2;
 

@@ -14,6 +14,7 @@ mod layout;
 mod name_rules;
 mod object_rules;
 mod pointers;
+mod rest_rules;
 mod table_rules;
 
 pub use array_rules::{arrays_fault, capacity, chunk_words};
@@ -25,6 +26,7 @@ pub use layout::{ALLOCATING, FIRST_SLOT, IDLE, SMALL_PAGE};
 pub use name_rules::name_fault;
 pub use object_rules::objects_fault;
 pub use pointers::{is_block_pointer, is_null_or_words, pointed_place, pointed_words};
+pub use rest_rules::{closed_fault, given_back_fault, idle_fault, next_slot_fault};
 pub use table_rules::{
     columns_of, published_tables, table_block, table_count_fault, table_slot_fault,
 };

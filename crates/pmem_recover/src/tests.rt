@@ -21,6 +21,30 @@ fn check_changed(
     Ok(check_entry(alloc, &words))
 }
 
+// A formatted image with one table `t a:int` without rows and values, whose block is the first slot of page 4.
+const TABLE: [(usize, u64); 8] = [
+    (515, 1),
+    (520, BLOCK),
+    (4, 6),
+    (2048, 1),
+    (2056, 1),
+    (2058, 116),
+    (2096, 1),
+    (2097, 97),
+];
+
+// Checks it after up to four of its words were changed.
+fn check_changed_table(
+    rt: &impl Abort,
+    alloc: Global,
+    changes: [(usize, u64); 4],
+) -> Result<Result<(), EntryError>, NoMemory> {
+    let mut all = [(1000, 0); 12];
+    all[..8].copy_from_slice(&TABLE);
+    all[8..].copy_from_slice(&changes);
+    check_changed(rt, alloc, &all)
+}
+
 fn broken(rule: u8, place: u32) -> Result<(), EntryError> {
     Err(EntryError::BadImage { rule, place })
 }
@@ -29,6 +53,9 @@ fn broken(rule: u8, place: u32) -> Result<(), EntryError> {
 const FIRST_SEGMENT: u64 = 4_294_969_344;
 
 const LAST_SEGMENT: u64 = 4_294_999_808;
+
+// The pointer to the last page.
+const LAST_PAGE: u64 = 4_294_999_552;
 
 #[test]
 fn the_first_broken_rule_is_told(rt: HostRuntime) -> Result<(), Fail> {
@@ -73,6 +100,65 @@ fn the_first_broken_rule_is_told(rt: HostRuntime) -> Result<(), Fail> {
     ];
     for (changes, told) in cases {
         assert_eq!(rt; check_changed(&rt, rt.alloc(), changes)?, told);
+    }
+    Ok(())
+}
+
+#[test]
+fn the_first_broken_rule_of_a_table_is_told(rt: HostRuntime) -> Result<(), Fail> {
+    let same = (1000, 0);
+    let row = 1 << 56;
+    for (changes, told) in [
+        ([same, same, same, same], Ok(())),
+        ([(515, 33), same, same, same], broken(4, 515)),
+        ([(9, 9), same, same, same], broken(6, 9)),
+        ([(2048, 11), same, same, same], broken(7, 2048)),
+        ([(522, 1), same, same, same], broken(9, 522)),
+        ([(551, 1), same, same, same], broken(9, 551)),
+        ([(521, BLOCK), same, same, same], Ok(())),
+        ([(521, BLOCK + 1), same, same, same], broken(9, 521)),
+        ([(2056, 0), same, same, same], broken(9, 520)),
+        ([(2056, 17), same, same, same], broken(9, 520)),
+        ([(2064, 13), same, same, same], broken(10, 2064)),
+        ([(2065, LAST_PAGE), same, same, same], Ok(())),
+        ([(2065, LAST_PAGE + 1), same, same, same], broken(10, 2065)),
+        ([(2064, 1), same, same, same], broken(10, 2065)),
+        ([(2076, LAST_PAGE), same, same, same], broken(10, 2076)),
+        ([(2132, 1), same, same, same], broken(10, 2132)),
+        ([(2058, 0), same, same, same], broken(12, 2058)),
+        ([(2060, 97 << 56), same, same, same], broken(12, 2060)),
+        ([(2096, 3), same, same, same], broken(12, 2096)),
+        ([(2097, 97 + (95 << 8)), same, same, same], Ok(())),
+        ([(2097, 97 + (65 << 8)), same, same, same], broken(12, 2097)),
+        ([(1024, 1), (1028, 3 << 56), same, same], broken(15, 1028)),
+        ([(1024, 1), (1028, row), same, same], broken(15, 1028)),
+        ([(1028, row), same, same, same], Ok(())),
+        ([(1984, 1), (2047, row), same, same], broken(15, 2047)),
+    ] {
+        assert_eq!(rt; check_changed_table(&rt, rt.alloc(), changes)?, told);
+    }
+    Ok(())
+}
+
+// Entries of rows below and at the capacity of an array of one chunk.
+#[test]
+fn entries_are_of_rows_with_stamps(rt: HostRuntime) -> Result<(), Fail> {
+    let row = 1 << 56;
+    for (entry, told) in [
+        ((1028, row + 511), Ok(())),
+        ((1028, row + 512), broken(15, 1028)),
+        ((1028, row + (1 << 32)), broken(15, 1028)),
+        ((1029, row), broken(15, 1029)),
+    ] {
+        let mut all = [(1000, 0); 14];
+        all[..8].copy_from_slice(&TABLE);
+        all[8] = (2064, 1);
+        all[9] = (2065, LAST_PAGE);
+        all[10] = (2080, 1);
+        all[11] = (2081, LAST_PAGE);
+        all[12] = (1024, 1);
+        all[13] = entry;
+        assert_eq!(rt; check_changed(&rt, rt.alloc(), &all)?, told);
     }
     Ok(())
 }
