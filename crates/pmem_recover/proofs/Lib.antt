@@ -1,10 +1,14 @@
 pub mod Changes
 pub mod Clearing
+pub mod Freeing
 pub mod Gathered
 pub mod Parts
 pub mod Steps
+pub mod TableSlot
 pub mod LaneChanges
 pub mod Mending
+pub mod NeededStores
+pub mod PartByPart
 pub mod Faults
 pub mod HeapChecks
 pub mod LaneChecks
