@@ -81,7 +81,7 @@ needed-more (first ∷ changes) c words =
     ∙ sym (append_assoc (if_needed words first) (needed_parts (set words first.place.0 first.value) (change_parts changes)) (if_needed (finished (change_parts (first ∷ changes)) words) c))
     ∙ ap (λ (parts : List Part). parts ++ if_needed (finished (change_parts (first ∷ changes)) words) c) (sym (needed-one words first (change_parts changes)))
 
-finished-more : (changes : List Change) (c : Change) (words : List ℕ) → finished (change_parts (changes ++ c ∷ [])) words ≡ set (finished (change_parts changes) words) c.place.0 c.value
+pub finished-more : (changes : List Change) (c : Change) (words : List ℕ) → finished (change_parts (changes ++ c ∷ [])) words ≡ set (finished (change_parts changes) words) c.place.0 c.value
 finished-more [] c words = refl
 finished-more (first ∷ changes) c words = finished-more changes c (set words first.place.0 first.value)
 

@@ -1,8 +1,12 @@
 pub mod Changes
 pub mod Clearing
+pub mod FirstFault
+pub mod Freeing
 pub mod Gathered
-pub mod Parts
-pub mod Steps
 pub mod LaneChanges
 pub mod Mending
-pub mod FirstFault
+pub mod NeededStores
+pub mod PartByPart
+pub mod Parts
+pub mod Steps
+pub mod TableSlot

@@ -78,8 +78,8 @@ pub(crate) fn read_pointer<M: Memory>(mem: &M, at: Place) -> Place
     pointer.place().unwrap()
 }
 
-// The change that clears the mark of a block.
-fn release<M: Memory>(mem: &M, block: Place) -> Change
+/// The change that clears the mark of a block.
+pub(crate) fn release<M: Memory>(mem: &M, block: Place) -> Change
     requires in_image { block.0 < length (M.device mem.now).cached }
     requires slot { block.0 % 512 ≢ 0 → IsTrue (is_slot (M.device mem.now).cached block.0) }
     ensures change { result ≡ released_change (M.device mem.now).cached block.0 }

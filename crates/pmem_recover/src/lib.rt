@@ -14,6 +14,7 @@ mod lanes;
 mod laws;
 mod objects;
 mod part;
+mod slot;
 mod layout;
 
 pub use clear::next_clear;
@@ -23,6 +24,7 @@ pub use lanes::next_lane;
 pub use laws::{fault_law, lane_opening_law};
 pub use objects::{next_idle, next_last};
 pub use pm_model::NoMemory;
+pub use slot::next_slot;
 
 #[cfg(test)]
 mod tests;

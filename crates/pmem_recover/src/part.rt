@@ -1,8 +1,8 @@
 // A part of several changes, of which only the needed ones are stored.
-ghost use Rattle.std.specs.Prelude.{◌≡◌, ◌+◌, ◌*◌, ◌^◌, ◌<◌, ◌≤◌, ◌++◌, All, IfOk, length};
+ghost use Rattle.std.specs.Prelude.{◌≡◌, ◌+◌, ◌*◌, ◌^◌, ◌<◌, ◌≤◌, ◌++◌, ◌∷◌, All, IfOk, length, take, drop};
 ghost use Rattle.pm_model.specs.Plans.{part_actions, plan_of, unless_empty, words_after};
-ghost use Rattle.pm_model.specs.Needed.{needed_stores};
-ghost use Rattle.pmem_recover.specs.Changes.{change_part};
+ghost use Rattle.pm_model.specs.Needed.{needed_stores, needed_parts};
+ghost use Rattle.pmem_recover.specs.Changes.{change_part, change_parts};
 
 use crate::change::{Change, word_after};
 use pm_model::{Action, Memory, NoMemory, Plan};
@@ -28,6 +28,31 @@ pub(crate) fn push_part<M: Memory>(
     if !needed.is_empty() {
         push_stores(plan, &needed);
         plan.end_part(needed.len() as u32);
+    }
+    Ok(())
+}
+
+/// Adds a part with those of the first changes that are needed, and then a part for each other change that is needed once
+/// those before it were made.
+pub(crate) fn push_parts<M: Memory>(
+    alloc: Global,
+    plan: &mut Plan,
+    mem: &M,
+    changes: &[Change],
+    first: usize,
+) -> Result<(), NoMemory>
+    requires first { first ≤ length changes.now }
+    requires few { length changes.now < 2 ^ 30 }
+    requires room { 3 * length changes.now < plan.old.spare }
+    requires in_image { All (λ change. change.place.0 < length (M.device mem.now).cached) changes.now }
+    ensures { IfOk result (λ _. plan.new.left ≡ plan.old.left ++ plan_of (needed_parts (M.device mem.now).cached (change_part (take first changes.now) ∷ change_parts (drop first changes.now)))) }
+{
+    push_part(alloc, plan, mem, &[], &changes[..first])?;
+    for done in first..changes.len() {
+        let change = changes[done];
+        if word_after(mem, &changes[..done], change.place) != change.value {
+            plan.push_store(change.place, change.value);
+        }
     }
     Ok(())
 }
