@@ -13,12 +13,11 @@ ghost use Rattle.heap_palloc.specs.Calls.{MayCall, IsPlanned, IsAllocated, IsFul
 use crate::block::{Block, slot_block};
 use crate::error::AllocError;
 use crate::heap::Heap;
-use crate::layout::BIG_HEAD;
 use crate::parts::{
     ALLOCATION_ACTIONS, NEW_PAGE_ACTIONS, push_allocation, push_forgetting, push_new_page,
 };
 use heap_small::{Class, class_for, first_free, slots, with};
-use pm_model::{Memory, NoMemory, PAGE_WORDS, Page, Place, Plan};
+use pm_model::{BIG_HEAD, Memory, NoMemory, PAGE_WORDS, Page, Place, Plan};
 use std::alloc::Global;
 
 /// Plans the allocation of a block of so many words, whose pointer goes into the word at `dest`.

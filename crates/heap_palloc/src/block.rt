@@ -1,9 +1,8 @@
 ghost use Rattle.std.specs.Prelude.{◌≡◌, ◌+◌, ◌*◌, ◌<◌};
 ghost use Rattle.pm_model.specs.Blocks.{slot_at, slot_words, slots_of};
 
-use crate::layout::FIRST_SLOT;
 use heap_small::{Class, class_words};
-use pm_model::{PAGE_WORDS, Place};
+use pm_model::{FIRST_SLOT, PAGE_WORDS, Place};
 
 /// A block of the heap: the place of its first word, and how many words it has.
 #[derive(Clone, Copy, Debug, PartialEq, Eq)]

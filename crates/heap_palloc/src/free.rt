@@ -10,11 +10,13 @@ ghost use Rattle.heap_palloc.specs.Lane.{is_big_place};
 ghost use Rattle.heap_palloc.specs.Calls.{MayCall, OwnsBlock, IsFreed};
 
 use crate::heap::Heap;
-use crate::layout::{BIG_HEAD, FIRST_SLOT, SMALL_PAGE};
 use crate::parts::{ALLOCATION_ACTIONS, STORE_ACTIONS, push_freeing};
 use heap_big::Run;
 use heap_small::{Class, class_words, first_free, without};
-use pm_model::{Memory, NoMemory, PAGE_WORDS, PPtr, Page, Place, Plan, descriptor};
+use pm_model::{
+    BIG_HEAD, FIRST_SLOT, Memory, NoMemory, PAGE_WORDS, PPtr, Page, Place, Plan, SMALL_PAGE,
+    descriptor,
+};
 use std::alloc::Global;
 
 /// Plans the freeing of the live block whose pointer the word at `dest` holds. Where that was the last block of a small

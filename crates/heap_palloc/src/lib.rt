@@ -7,7 +7,6 @@ mod error;
 mod free;
 mod heap;
 mod laws;
-mod layout;
 mod page_list;
 mod parts;
 mod reading;
@@ -20,10 +19,6 @@ pub use heap::Heap;
 pub use laws::{
     allocation_law, change_law, freeing_law, fresh_heap_law, lane_law, new_slot_law, owners_law,
     pages_law, slot_freeing_law, slot_law,
-};
-pub use layout::{
-    ALLOCATING, BIG_HEAD, FIRST_SLOT, FREEING, GIVEN_BACK, IDLE, LAST_BIG_HEAD, LAST_SMALL_PAGE,
-    SMALL_PAGE,
 };
 pub use pm_model::NoMemory;
 pub use reading::reopen;

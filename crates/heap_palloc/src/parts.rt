@@ -7,10 +7,10 @@ ghost use Rattle.pm_model.specs.Fixed.{lane_at, lane_op_at};
 ghost use Rattle.heap_palloc.specs.Lane.{mark_at};
 ghost use Rattle.heap_palloc.specs.Parts.{Allocation, lane_part, allocation_parts, freeing_parts, new_page_parts, free_page_parts, forget_given_back};
 
-use crate::layout::{ALLOCATING, FREEING, GIVEN_BACK, IDLE, SMALL_PAGE};
 use heap_big::Run;
 use pm_model::{
-    Action, Memory, PAGE_WORDS, PPtr, Page, Place, Plan, descriptor, lane_block, lane_dest, lane_op,
+    ALLOCATING, Action, FREEING, GIVEN_BACK, IDLE, Memory, PAGE_WORDS, PPtr, Page, Place, Plan,
+    SMALL_PAGE, descriptor, lane_block, lane_dest, lane_op,
 };
 
 // The actions of a part of one store: the store, a flush and a fence.

@@ -7,11 +7,11 @@ ghost use Rattle.heap_palloc.specs.Rising.{IsRising};
 ghost use Rattle.heap_palloc.specs.Index.{IsIndexOf, has_room, rooms_of, pages_with_room};
 
 use crate::heap::Heap;
-use crate::layout::{BIG_HEAD, LAST_SMALL_PAGE, SMALL_PAGE};
 use heap_big::Runs;
 use heap_small::{Class, first_free};
 use pm_model::{
-    Memory, NoMemory, PAGE_WORDS, Page, Place, SEGMENT_PAGES, SEGMENT_WORDS, descriptor,
+    BIG_HEAD, LAST_SMALL_PAGE, Memory, NoMemory, PAGE_WORDS, Page, Place, SEGMENT_PAGES,
+    SEGMENT_WORDS, SMALL_PAGE, descriptor,
 };
 use std::alloc::Global;
 

@@ -22,7 +22,6 @@ pub use entry_rules::{entries_fault, next_segment, ready_count};
 pub use first_words::{last_fault, magic_fault, version_fault};
 pub use heap_rules::{bitmap_fault, descriptor_fault, is_small_page, reserved_fault};
 pub use lane_rules::lane_fault;
-pub use layout::{ALLOCATING, FIRST_SLOT, IDLE, SMALL_PAGE};
 pub use name_rules::name_fault;
 pub use object_rules::objects_fault;
 pub use pointers::{is_block_pointer, is_null_or_words, pointed_place, pointed_words};

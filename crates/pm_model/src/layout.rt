@@ -70,5 +70,44 @@ pub const MAGIC: u64 = 0x4244_5452_4F46_4F53;
 /// The version of the format.
 pub const VERSION: u64 = 1;
 
+/// The descriptor of a free page that was given back: its words are 0. That of any other free page is 0.
+pub const GIVEN_BACK: u64 = 1;
+
+/// A small page has the descriptor `SMALL_PAGE` + its class, which is 0 to 5.
+pub const SMALL_PAGE: u64 = 2;
+
+/// The descriptor of a small page of the last class.
+pub const LAST_SMALL_PAGE: u64 = 7;
+
 /// The descriptor of a page that the heap never gives out.
 pub const RESERVED: u64 = 8;
+
+/// The head of a big block of n pages has the descriptor `BIG_HEAD` + n, where n is 1 to 63.
+pub const BIG_HEAD: u64 = 16;
+
+/// The descriptor of the head of the longest big block.
+pub const LAST_BIG_HEAD: u64 = 79;
+
+/// The pages of the first segment that are reserved: its descriptors and the fixed places.
+pub const FIXED_PAGES: u32 = 4;
+
+/// The words of a small page before its first slot: the bitmap and the rest of its line.
+pub const FIRST_SLOT: u32 = 8;
+
+/// The op of a lane that is at work on nothing.
+pub const IDLE: u64 = 0;
+
+/// The op of a lane that is at work on an allocation.
+pub const ALLOCATING: u64 = 1;
+
+/// The op of a lane that is at work on a freeing.
+pub const FREEING: u64 = 2;
+
+/// The state of a transaction object without a transaction.
+pub const CLOSED: u64 = 0;
+
+/// The state of a transaction object whose transaction is open.
+pub const OPEN: u64 = 1;
+
+/// The greatest number of a commit: such numbers have 40 bits.
+pub const MAX_COMMITS: u64 = (1 << 40) - 1;

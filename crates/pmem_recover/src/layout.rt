@@ -1,3 +1,3 @@
 // The numbers that lanes and pages hold.
 
-pub(crate) use image_rules::{ALLOCATING, FIRST_SLOT, IDLE, SMALL_PAGE};
+pub(crate) use pm_model::{ALLOCATING, FIRST_SLOT, FREEING, IDLE, SMALL_PAGE};

@@ -12,10 +12,10 @@ mod entry;
 mod error;
 mod lanes;
 mod laws;
+mod layout;
 mod objects;
 mod part;
 mod slot;
-mod layout;
 
 pub use clear::next_clear;
 pub use entry::check_entry;

@@ -6,13 +6,10 @@ ghost use Rattle.shown_state.specs.Mending.{last_mending, close_mending};
 ghost use Rattle.pmem_recover.specs.Steps.{step_parts, IsNext, NoneFrom};
 
 use crate::change::CHANGE_ACTIONS;
-use pm_model::{Memory, NoMemory, OBJECTS, Plan, commit_word, last_commit, object_state};
+use pm_model::{
+    CLOSED, Memory, NoMemory, OBJECTS, OPEN, Plan, commit_word, last_commit, object_state,
+};
 use std::alloc::Global;
-
-// The states of a transaction object: no transaction, or an open one.
-const CLOSED: u64 = 0;
-
-const OPEN: u64 = 1;
 
 /// The plan by which the last commit number becomes the greatest of itself and the commit words of open objects. It has
 /// the number 0; `None` where the number is the greatest already, and from 1 on always.
