@@ -1,5 +1,6 @@
 pub mod Clears
 pub mod Entering
+pub mod Extending
 pub mod Frames
 pub mod Lines
 pub mod Places
@@ -9,3 +10,4 @@ pub mod Rule
 pub mod Runs
 pub mod Taken
 pub mod Walk
+pub mod Whole

@@ -21,6 +21,7 @@ use Rattle.heap_palloc.proofs.Rooms.{free-same, room-same, rooms_kept}
 use Rattle.heap_palloc.proofs.Reindex.{runs_of, runs_kept}
 use Rattle.txn_object.specs.Extension.{Extension, new_segment, source_parts, segment_from, zero_part, readying_parts, extension_parts, MayExtend}
 use Rattle.txn_object.specs.Calls.{IsExtensionPlanned, IsSegmentPlanned}
+use Rattle.txn_object.specs.Shown.{IsOutside}
 use Rattle.txn_object.proofs.Taken.{StandsOn, source_stands}
 
 -- ── places in a row ──
@@ -44,10 +45,6 @@ apart_below size at zero le = tt
 apart_below size at (suc count) le = (omega (arith, le), among-out (at + 1) count at (inl (omega arith)), apart_below size (at + 1) count (omega (arith, le)))
 
 -- ── 0 over a segment ──
-
--- a place outside the words of a segment
-abbrev pub IsOutside : ℕ → ℕ → Type 0
-IsOutside segment w = (w < segment) ⊎ (segment + 256 ≤ w)
 
 pub zero-out : (segment w : ℕ) → IsOutside segment w → footprint (zero_part segment) w ≡ false
 unfolding zero_part
@@ -107,6 +104,20 @@ readied_same object count segment words = record {
   size = length-set (words_after (zero_part segment) words) (ready_at object) (count + 1) ∙ length-words_after (zero_part segment) words;
   each = λ w out apart. get_or-set_other (words_after (zero_part segment) words) (ready_at object) w (count + 1) 0 apart ∙ words_after-kept (zero_part segment) words w (zero-out segment w out);
 }
+
+pub readied_is_set : (object count segment : ℕ) (words : List ℕ) → set (words_after (zero_part segment) words) (ready_at object) (count + 1) ≡ readied object count segment words
+unfolding readied
+readied_is_set object count segment words = refl
+
+pub readied_count : (object count segment : ℕ) (words : List ℕ) → ready_at object < length words → get_or (readied object count segment words) (ready_at object) 0 ≡ count + 1
+unfolding readied
+readied_count object count segment words there =
+    get_or-set_same (words_after (zero_part segment) words) (ready_at object) (count + 1) 0 (let size = length-words_after (zero_part segment) words in omega (arith, there, size))
+
+pub readied_zero : (object count segment w : ℕ) (words : List ℕ) → segment ≤ w → w < segment + 256 → ready_at object < segment → segment + 256 ≤ length words → get_or (readied object count segment words) w 0 ≡ 0
+unfolding readied
+readied_zero object count segment w words from to far there =
+    get_or-set_other (words_after (zero_part segment) words) (ready_at object) w (count + 1) 0 (λ e. omega (arith, e, far, from)) ∙ zero-in segment w words from to (omega (arith, to, there))
 
 -- ── the index of the heap ──
 

@@ -1,16 +1,20 @@
 -- What the words of a transaction object show, and what the plans of a transaction may rest on.
-use Rattle.std.specs.Prelude.{◌≡◌, ◌≢◌, ℕ, ◌+◌, ◌%◌, ◌^◌, ◌<◌, ◌≤◌, List, length, slice_index}
+use Rattle.std.specs.Prelude.{◌≡◌, ◌≢◌, ◌⊎◌, ℕ, ◌+◌, ◌%◌, ◌^◌, ◌<◌, ◌≤◌, List, [], ◌∷◌, ◌++◌, length, slice_index}
 use Rattle.pm_model.specs.declared.action.Action.{Action}
 use Rattle.pm_model.specs.Device.{Device}
-use Rattle.pm_model.specs.Fixed.{state_at, commit_word_at}
-use Rattle.pm_model.specs.Plans.{Play, IsPlaying, IsCrashImageWithin, IsTakenBack}
+use Rattle.pm_model.specs.Fixed.{state_at, commit_word_at, ready_at}
+use Rattle.pm_model.specs.Pointer.{pointer_word}
+use Rattle.pm_model.specs.Blocks.{live_blocks}
+use Rattle.pm_model.specs.Plans.{Play, IsPlaying, IsCrashImageWithin, IsTakenBack, finished}
 use Rattle.pm_model.specs.HeapLaws.{AreApart}
 use Rattle.pm_model.specs.Checks.{Keeps}
-use Rattle.pm_model.specs.Objects.{ready_count, segment_of, entry_places, entries}
+use Rattle.pm_model.specs.Objects.{ready_count, segment_of, pointer_after, ready_segments, entry_places, entries}
 use Rattle.pm_model.specs.EntryRules.{object_rule}
 use Rattle.txn_object.specs.declared.entry.Entry.{Entry}
 use Rattle.txn_object.specs.Object.{entries_in, NoEntryFollowsZero}
-use Rattle.txn_object.specs.Extension.{segment_block}
+use Rattle.txn_object.specs.Extension.{Source, owned, allocated, Extension, new_segment, extension_parts, segment_block}
+use Rattle.heap_palloc.specs.Law.{IsElsewhere}
+use Rattle.heap_palloc.specs.Choice.{choice_page, choice_pages}
 
 -- a transaction as its object has it: its state, its commit word and its entries
 pub record Transaction : Type 0 where
@@ -50,3 +54,47 @@ pub record IsCut (play : Play) (left : List Action) (d : Device) (image base : L
   pub playing : IsPlaying play played left d
   pub left_by : IsCrashImageWithin play.own d image
   pub back : IsTakenBack play image base
+
+-- ── an extension ──
+
+-- a word that the allocation of a segment doesn't write
+abbrev pub IsElsewhereOf : List ℕ → ℕ → Source → ℕ → Type 0
+IsElsewhereOf words object (owned segment) w = Unit {0}
+IsElsewhereOf words object (allocated choice) w = IsElsewhere object (pointer_after words object) (choice_page choice) (choice_pages choice) w
+
+-- a place outside the words of a segment
+abbrev pub IsOutside : ℕ → ℕ → Type 0
+IsOutside segment w = (w < segment) ⊎ (segment + 256 ≤ w)
+
+-- The object's rule holds, it has the state, the commit word and the entries as before, and each word that the extension
+-- doesn't write stays.
+pub record KeepsEntries (base : List ℕ) (e : Extension) (words : List ℕ) : Type 0 where
+  pub size : length words ≡ length base
+  pub rule : Keeps words (object_rule e.object)
+  pub state : slice_index words (state_at e.object) ≡ slice_index base (state_at e.object)
+  pub commit_word : slice_index words (commit_word_at e.object) ≡ slice_index base (commit_word_at e.object)
+  pub entries : entries words e.object ≡ entries base e.object
+  pub others : (w : ℕ) → IsElsewhereOf base e.object e.source w → IsOutside (new_segment e) w → w ≢ ready_at e.object → slice_index words w ≡ slice_index base w
+
+-- the live blocks are those after the extension, and the segment's pointer stands behind the ready ones
+pub record HasSegment (base : List ℕ) (e : Extension) (words : List ℕ) : Type 0 where
+  pub blocks_are : live_blocks words ≡ live_blocks (finished (extension_parts base e) base)
+  pub named : slice_index words (pointer_after base e.object) ≡ pointer_word (new_segment e)
+
+-- the live blocks and that pointer are those before the extension
+pub record HasNoSegment (base : List ℕ) (e : Extension) (words : List ℕ) : Type 0 where
+  pub blocks_are : live_blocks words ≡ live_blocks base
+  pub named : slice_index words (pointer_after base e.object) ≡ slice_index base (pointer_after base e.object)
+
+-- the ready segments before, and a segment behind them that the object owns or doesn't
+pub record IsUnextended (base : List ℕ) (e : Extension) (words : List ℕ) : Type 0 where
+  pub keeps : KeepsEntries base e words
+  pub segments : ready_segments words e.object ≡ ready_segments base e.object
+  pub segment : HasNoSegment base e words ⊎ HasSegment base e words
+
+-- one ready segment more, whose words are 0
+pub record IsExtended (base : List ℕ) (e : Extension) (words : List ℕ) : Type 0 where
+  pub keeps : KeepsEntries base e words
+  pub segments : ready_segments words e.object ≡ ready_segments base e.object ++ new_segment e ∷ []
+  pub new_words : (w : ℕ) → new_segment e ≤ w → w < new_segment e + 256 → slice_index words w ≡ 0
+  pub segment : HasSegment base e words

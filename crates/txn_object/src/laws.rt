@@ -1,13 +1,18 @@
 // What an object's words show through each power cut, whatever is played beside the plan.
-ghost use Rattle.std.specs.Prelude.{◌≡◌, ◌≢◌, ◌⊎◌, ◌↔◌, ℕ, ◌^◌, ◌<◌, [], ◌∷◌, ◌++◌, IsTrue, List, length, slice_index};
+ghost use Rattle.std.specs.Prelude.{◌≡◌, ◌≢◌, ◌⊎◌, ◌↔◌, ℕ, ◌^◌, ◌%◌, ◌<◌, ◌≤◌, [], ◌∷◌, ◌++◌, IsTrue, List, length, slice_index};
 ghost use Rattle.pm_model.specs.declared.action.Action.{Action};
 ghost use Rattle.pm_model.specs.Device.{Device, IsClean};
 ghost use Rattle.pm_model.specs.Fixed.{state_at};
-ghost use Rattle.pm_model.specs.Plans.{Play, IsPlan, footprint, plan_of};
+ghost use Rattle.pm_model.specs.Plans.{Play, IsPlaying, IsPlan, finished, footprint, plan_of};
+ghost use Rattle.pm_model.specs.Blocks.{live_blocks};
+ghost use Rattle.pm_model.specs.Objects.{pointer_after};
+ghost use Rattle.heap_palloc.specs.Lane.{mended_lane};
+ghost use Rattle.heap_palloc.specs.Shown.{GainsOne};
 ghost use Rattle.txn_object.specs.declared.entry.Entry.{Entry};
 ghost use Rattle.txn_object.specs.Entries.{entry_word, entry_of};
 ghost use Rattle.txn_object.specs.Object.{nth_place, begin_parts, entry_part, NoEntryFollowsZero};
-ghost use Rattle.txn_object.specs.Shown.{Transaction, Shows, HasObject, MayEnter, IsCut};
+ghost use Rattle.txn_object.specs.Extension.{Extension, new_segment, extension_parts, segment_block, HasSegments, MayExtend};
+ghost use Rattle.txn_object.specs.Shown.{Transaction, Shows, HasObject, MayEnter, IsCut, IsUnextended, IsExtended};
 
 /// A begin: the state before it or 1, and from its last action on 1. The entries stay.
 pub fn begin_law()
@@ -53,4 +58,28 @@ pub fn entry_law()
         IsCut play left d image base → play.parts ≡ entry_part base object nth entry ∷ [] → MayEnter base object nth entry → HasObject image object }
     ensures packed { (object nth : ℕ) (entry : Entry) (play : Play) (left : List Action) (d : Device) (image base : List ℕ) →
         IsCut play left d image base → play.parts ≡ entry_part base object nth entry ∷ [] → MayEnter base object nth entry → NoEntryFollowsZero image object }
+{}
+
+/// An extension: the lane mended, each image has the ready segments before, or those after and new words of 0; the entries
+/// stay. After its last action it is the segments after.
+pub fn extension_law()
+    ensures plan { (base : List ℕ) (e : Extension) → MayExtend base e → IsPlan (length base) (extension_parts base e) }
+
+    // It allocates the segment, unless the object owned it.
+    ensures allocates { (base : List ℕ) (e : Extension) → MayExtend base e → slice_index base (pointer_after base e.object) ≡ 0 →
+        GainsOne (live_blocks base) (segment_block (new_segment e)) (live_blocks (finished (extension_parts base e) base)) }
+    ensures owned { (base : List ℕ) (e : Extension) → MayExtend base e → slice_index base (pointer_after base e.object) ≢ 0 →
+        live_blocks (finished (extension_parts base e) base) ≡ live_blocks base }
+
+    ensures survives { (e : Extension) (play : Play) (left : List Action) (d : Device) (image base : List ℕ) →
+        IsCut play left d image base → play.parts ≡ extension_parts base e → MayExtend base e →
+        (IsUnextended base e (mended_lane e.object image)) ⊎ (IsExtended base e (mended_lane e.object image)) }
+    ensures stays { (e : Extension) (play : Play) (d : Device) (image base : List ℕ) →
+        IsCut play [] d image base → play.parts ≡ extension_parts base e → MayExtend base e → IsExtended base e (mended_lane e.object image) }
+    ensures settles { (base : List ℕ) (e : Extension) → MayExtend base e → IsExtended base e (finished (extension_parts base e) base) }
+    ensures clean { (play : Play) (n w : ℕ) (d : Device) → IsPlaying play n [] d → IsTrue (footprint (plan_of play.parts) w) → IsClean d w }
+
+    // The ready segments go on to be blocks of the heap, which share no word.
+    ensures again { (base : List ℕ) (e : Extension) → MayExtend base e → HasSegments (finished (extension_parts base e) base) e.object }
+    ensures object { (words : List ℕ) (object : ℕ) → object < 16 → 2048 ≤ length words → length words % 32768 ≡ 0 → HasSegments words object → HasObject words object }
 {}
