@@ -1,10 +1,12 @@
 -- What a catalog says of the published tables, and which words it stands for.
-use Rattle.std.specs.Prelude.{ℕ, Option, List, map}
+use Rattle.std.specs.Prelude.{ℕ, ◌+◌, ◌<◌, ◌≤◌, IsTrue, Option, List, length, map, slice_index}
 use Rattle.std.specs.List.{position_from}
 use Rattle.mv_model.specs.declared.shape.Column.{Column}
-use Rattle.mv_model.specs.Name.{same_name}
-use Rattle.pm_model.specs.Places.{below}
-use Rattle.pm_model.specs.Records.{table_name_at}
+use Rattle.mv_model.specs.Name.{is_name, same_name}
+use Rattle.mv_model.specs.Shape.{is_shape}
+use Rattle.pm_model.specs.Fixed.{table_slot_at}
+use Rattle.pm_model.specs.Places.{below, is_pointer}
+use Rattle.pm_model.specs.Records.{column_at, column_name_at, columns_at, table_name_at, table_words}
 use Rattle.pm_model.specs.Tables.{table_count, table_block, columns_of}
 use Rattle.shown_state.specs.LogicalState.{name_at, column_of}
 
@@ -31,3 +33,17 @@ published_table words table =
 
 abbrev pub published_tables : List ℕ → List CatalogTable
 published_tables words = map (published_table words) (below (table_count words))
+
+-- A published table's pointer names a block of the image, which shows a name and columns as a table has them.
+pub record ShowsTable (words : List ℕ) (table : ℕ) : Type 0 where
+  pub pointer : IsTrue (is_pointer words (slice_index words (table_slot_at table)))
+  pub most : slice_index words (columns_at (table_block words table)) ≤ 16
+  pub in_image : table_block words table + table_words (slice_index words (columns_at (table_block words table))) ≤ length words
+  pub name : IsTrue (is_name (name_at words (table_name_at (table_block words table))))
+  pub column_names : (column : ℕ) → column < slice_index words (columns_at (table_block words table)) → IsTrue (is_name (name_at words (column_name_at (column_at (table_block words table) column))))
+  pub shape : IsTrue (is_shape (map (column_of words) (columns_of words (table_block words table))))
+
+-- there are at most 32 of them, and each does
+pub record ShowsTables (words : List ℕ) : Type 0 where
+  pub most : table_count words ≤ 32
+  pub each : (table : ℕ) → table < table_count words → ShowsTable words table

@@ -3,9 +3,11 @@
 
 mod create;
 mod error;
+mod reading;
 mod tables;
 mod words;
 
 pub use error::CreateError;
 pub use pm_model::NoMemory;
+pub use reading::rebuild;
 pub use tables::Catalog;

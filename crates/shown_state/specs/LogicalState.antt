@@ -15,7 +15,7 @@ use Rattle.pm_model.specs.Objects.{is_open, entries, entry_kind, entry_table, en
 use Rattle.pm_model.specs.Trees.{text_at, dictionary_word, dictionary_words}
 
 -- the bytes of a name up to its padding
-abbrev pub name_at : List ℕ → ℕ → List ℕ
+unfoldable pub name_at : List ℕ → ℕ → List ℕ
 name_at words place = take_while (λ byte. not (byte == 0)) (map (packed_byte words place) (below 24))
 
 abbrev pub kind_of : Bool → Kind

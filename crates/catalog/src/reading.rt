@@ -1,0 +1,132 @@
+// The catalog from the words.
+ghost use Rattle.std.specs.Prelude.{◌≡◌, ◌+◌, ◌*◌, ◌/◌, ◌%◌, ◌<◌, ◌≤◌, ℕ, IsTrue, IfOk, None, length, map, not, ◌==◌, slice_index, take_while};
+ghost use Rattle.mv_model.specs.Name.{is_name};
+ghost use Rattle.mv_model.specs.Shape.{is_shape};
+ghost use Rattle.pm_model.specs.Places.{below, is_pointer, packed_byte, place_in};
+ghost use Rattle.pm_model.specs.Records.{column_at, column_name_at, columns_at, table_words};
+ghost use Rattle.pm_model.specs.Tables.{columns_of, table_count as count_of_tables};
+ghost use Rattle.shown_state.specs.LogicalState.{column_of, name_at};
+ghost use Rattle.catalog.specs.Entries.{ShowsTable, ShowsTables, published_table, published_tables};
+
+use crate::tables::{Catalog, Table};
+use arrayvec::ArrayVec;
+use mv_model::{Column, Kind, Name, Shape};
+use pm_model::{
+    Memory, NoMemory, PPtr, Place, column, column_count, column_kind, column_name, table_count,
+    table_name, table_slot,
+};
+use std::alloc::Global;
+
+// The bytes of a name.
+const NAME_BYTES: u32 = 24;
+
+// The word of the kind of a column of texts.
+const TEXT: u64 = 2;
+
+/// The catalog of the published tables of these words. It takes the room for every table, so `published` takes none.
+pub fn rebuild<M: Memory>(alloc: Global, mem: &M) -> Result<Catalog, NoMemory>
+    requires { ShowsTables (M.device mem.now).cached }
+    ensures tables { IfOk result (λ catalog. catalog.tables ≡ published_tables (M.device mem.now).cached) }
+    ensures planned { IfOk result (λ catalog. catalog.planned ≡ None) }
+{
+    let mut catalog = Catalog::without_tables(alloc)?;
+    let count = mem.load(table_count()) as u8;
+    for table in 0..count {
+        catalog.add(read_table(mem, table));
+    }
+    Ok(catalog)
+}
+
+// A published table.
+fn read_table<M: Memory>(mem: &M, table: u8) -> Table
+    requires published { table < 32 }
+    requires shown { ShowsTable (M.device mem.now).cached table }
+    ensures { result ≡ published_table (M.device mem.now).cached table }
+{
+    let block = named(mem, table_slot(table));
+    Table {
+        name: read_name(mem, table_name(block)),
+        shape: read_shape(mem, block),
+        block,
+    }
+}
+
+// The place that the pointer at a place names.
+fn named<M: Memory>(mem: &M, at: Place) -> Place
+    requires at { at.0 < length (M.device mem.now).cached }
+    requires pointer { IsTrue (is_pointer (M.device mem.now).cached (slice_index (M.device mem.now).cached at.0)) }
+    ensures place { result.0 ≡ place_in (slice_index (M.device mem.now).cached at.0) }
+    ensures in_image { result.0 < length (M.device mem.now).cached }
+{
+    let pointer = PPtr::try_read(mem.load(at), mem.len()).unwrap();
+    pointer.place().unwrap()
+}
+
+// The columns of a table.
+fn read_shape<M: Memory>(mem: &M, block: Place) -> Shape
+    requires most { slice_index (M.device mem.now).cached (columns_at block.0) ≤ 16 }
+    requires in_image { block.0 + table_words (slice_index (M.device mem.now).cached (columns_at block.0)) ≤ length (M.device mem.now).cached }
+    requires names { (number : ℕ) → number < slice_index (M.device mem.now).cached (columns_at block.0) → IsTrue (is_name (name_at (M.device mem.now).cached (column_name_at (column_at block.0 number)))) }
+    requires shape { IsTrue (is_shape (map (column_of (M.device mem.now).cached) (columns_of (M.device mem.now).cached block.0))) }
+    ensures { result ≡ map (column_of (M.device mem.now).cached) (columns_of (M.device mem.now).cached block.0) }
+{
+    let count = mem.load(column_count(block)) as u8;
+    let mut columns = ArrayVec::new();
+    for number in 0..count {
+        columns.push(read_column(mem, column(block, number)));
+    }
+    Shape::of(columns).unwrap()
+}
+
+// A column by the place of its record.
+fn read_column<M: Memory>(mem: &M, at: Place) -> Column
+    requires in_image { at.0 + 4 ≤ length (M.device mem.now).cached }
+    requires name { IsTrue (is_name (name_at (M.device mem.now).cached (column_name_at at.0))) }
+    ensures { result ≡ column_of (M.device mem.now).cached at.0 }
+{
+    let kind = if mem.load(column_kind(at)) == TEXT {
+        Kind::Text
+    } else {
+        Kind::Int
+    };
+    Column {
+        name: read_name(mem, column_name(at)),
+        kind,
+    }
+}
+
+// The name whose words begin at a place.
+fn read_name<M: Memory>(mem: &M, first: Place) -> Name
+    requires in_image { first.0 + 3 ≤ length (M.device mem.now).cached }
+    requires name { IsTrue (is_name (name_at (M.device mem.now).cached first.0)) }
+    ensures { result ≡ name_at (M.device mem.now).cached first.0 }
+{
+    let bytes = read_bytes(mem, first);
+    let text = str::from_utf8(without_padding(&bytes)).unwrap();
+    Name::read(text).unwrap()
+}
+
+// The 24 bytes that a name and its padding have.
+fn read_bytes<M: Memory>(mem: &M, first: Place) -> [u8; 24]
+    requires { first.0 + 3 ≤ length (M.device mem.now).cached }
+    ensures { result ≡ map (packed_byte (M.device mem.now).cached first.0) (below 24) }
+{
+    let mut bytes = [0; 24];
+    for byte in 0..NAME_BYTES {
+        let word = mem.load(Place(first.0 + byte / 8));
+        bytes[byte as usize] = ((word >> (8 * (byte % 8))) % 256) as u8;
+    }
+    bytes
+}
+
+// The bytes before the first one that is 0.
+fn without_padding(bytes: &[u8]) -> &[u8]
+    ensures { result.now ≡ take_while (λ byte. not (byte == 0)) bytes.now }
+{
+    for (index, byte) in bytes.iter().enumerate() {
+        if *byte == 0 {
+            return &bytes[..index];
+        }
+    }
+    bytes
+}
