@@ -1,15 +1,15 @@
 -- The step that clears an object: only the words that aren't 0 need a store.
-use Rattle.std.proofs.Common.{◌≡◌, ◌≢◌, ◌⊎◌, inl, inr, ⊎_elim, ℕ, ◌+◌, ◌<◌, ◌≤◌, Bool, true, false, not, ◌||◌, cond, eqb, List, [], ◌∷◌, ◌++◌, length, get_or, All, map, refl, sym, ◌∙◌, ap, subst, append_assoc, arith}
+use Rattle.std.proofs.Common.{◌≡◌, ⊎_elim, ℕ, ◌<◌, Bool, true, false, not, ◌||◌, cond, eqb, List, [], ◌∷◌, ◌++◌, length, get_or, All, map, refl, sym, ◌∙◌, ap, subst}
 use Rattle.std.specs.Prelude.{filter}
 use Rattle.std.specs.List.{Contains}
-use Rattle.std.proofs.lemmas.Bool.{cases_Bool, cases_eq, cases_lt, both_ways, ne_eqb, not-false, or_right, cond-true, cond-false}
-use Rattle.std.proofs.lemmas.List.{get_or_past, append-nil, length-append, length-map}
+use Rattle.std.proofs.lemmas.Bool.{cases_Bool, cases_lt, both_ways, ne_eqb, not-false, or_right, cond-true, cond-false}
+use Rattle.std.proofs.lemmas.List.{get_or_past, append-nil}
 use Rattle.std.proofs.lemmas.List.Elements.{All-map, All-push, Contains-get_or}
 use Rattle.pm_model.specs.declared.action.Action.{Action}
 use Rattle.pm_model.specs.declared.place.Place.{Place}
 use Rattle.pm_model.specs.Fixed.{commit_word_at}
-use Rattle.pm_model.specs.Plans.{Part, one_store, store, stores, footprint, plan_of, part_actions, unless_empty, words_after}
-use Rattle.pm_model.specs.Needed.{needed_stores, needed_parts}
+use Rattle.pm_model.specs.Plans.{Part, one_store, store, stores, footprint, plan_of, unless_empty}
+use Rattle.pm_model.specs.Needed.{needed_stores}
 use Rattle.pm_model.specs.Objects.{entry_places}
 use Rattle.pm_model.proofs.Members.{Contains-filter, map-Contains}
 use Rattle.shown_state.specs.Mending.{clear_mending}

@@ -1,20 +1,17 @@
 -- The freeing of the block that a word names: its changes, and the slot of a table that was being created.
-use Rattle.std.proofs.Common.{◌≡◌, ◌≢◌, ◌⊎◌, ⊎_elim, ℕ, ◌+◌, ◌-◌, ◌*◌, ◌/◌, ◌%◌, ◌<◌, ◌≤◌, Bool, true, false, ◌&&◌, ◌||◌, cond, eqb, ltb, List, [], ◌∷◌, ◌++◌, get_or, take, drop, refl, sym, ◌∙◌, ap, arith}
-use Rattle.std.specs.Prelude.{IsTrue}
-use Rattle.std.specs.List.{flat_map}
-use Rattle.std.proofs.lemmas.Bool.{cases_eq, eqb-true, eq-eqb, ne_eqb, and_parts, cond-true, cond-false}
-use Rattle.std.proofs.lemmas.List.{append-nil}
+use Rattle.std.proofs.Common.{◌≡◌, ◌≢◌, ◌⊎◌, ⊎_elim, ℕ, ◌-◌, ◌%◌, Bool, true, false, ◌&&◌, cond, eqb, ltb, List, [], ◌∷◌, ◌++◌, get_or, take, drop, sym, ◌∙◌, ap, arith}
+use Rattle.std.proofs.lemmas.Bool.{eqb-true, eq-eqb, ne_eqb, and_parts, cond-true, cond-false}
 use Rattle.pm_model.specs.declared.action.Action.{Action}
-use Rattle.pm_model.specs.Fixed.{descriptor_at, lane_op_at, lane_dest_at, lane_block_at, table_slot_at}
+use Rattle.pm_model.specs.Fixed.{descriptor_at, lane_op_at, lane_dest_at, lane_block_at}
 use Rattle.pm_model.specs.Pointer.{pointer_word}
-use Rattle.pm_model.specs.Places.{page_of, page_at, place_in, is_pointer}
+use Rattle.pm_model.specs.Places.{page_of, page_at, place_in}
 use Rattle.pm_model.specs.Plans.{Part, one_store, store, plan_of}
 use Rattle.pm_model.specs.Needed.{needed_parts}
-use Rattle.pm_model.specs.Blocks.{bitmap_of, class_of, descriptor_of, slot_at, slot_in, slots_of, is_slot, is_small_page, is_block_pointer}
+use Rattle.pm_model.specs.Blocks.{bitmap_of, class_of, descriptor_of, slot_at, slot_in, slots_of, is_small_page, is_block_pointer}
 use Rattle.heap_small.specs.Bitmap.{without_bit}
 use Rattle.heap_palloc.specs.Lane.{is_big_place, mark_at, unmarked}
-use Rattle.heap_palloc.specs.Parts.{Allocation, freeing_parts, free_page_parts}
-use Rattle.heap_palloc.specs.Choice.{Freed, freed_named, freed_parts, slot_named, pages_named}
+use Rattle.heap_palloc.specs.Parts.{freeing_parts, free_page_parts}
+use Rattle.heap_palloc.specs.Choice.{freed_parts}
 use Rattle.shown_state.specs.Mending.{free_block}
 use Rattle.pmem_recover.specs.declared.change.Change.{Change}
 use Rattle.pmem_recover.specs.Changes.{change, change_part, change_parts}

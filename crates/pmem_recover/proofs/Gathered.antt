@@ -1,5 +1,5 @@
 -- The entries of an object: its segments lie in the image, and the places of the entries are gathered piece by piece.
-use Rattle.std.proofs.Common.{◌≡◌, ◌≢◌, ◌⊎◌, inl, inr, ⊎_elim, ℕ, zero, suc, ◌+◌, ◌-◌, ◌%◌, ◌^◌, ◌<◌, ◌≤◌, Bool, true, false, not, ◌&&◌, ◌||◌, min, leb, List, [], ◌∷◌, ◌++◌, length, get_or, map, refl, sym, ◌∙◌, ap, subst, append_assoc, arith}
+use Rattle.std.proofs.Common.{◌≡◌, ℕ, ◌+◌, ◌-◌, ◌%◌, ◌^◌, ◌<◌, ◌≤◌, Bool, true, min, leb, List, [], ◌∷◌, ◌++◌, length, get_or, map, refl, sym, ◌∙◌, ap, subst, append_assoc, arith}
 use Rattle.std.specs.Prelude.{IsTrue, filter}
 use Rattle.std.specs.List.{Contains}
 use Rattle.std.specs.List.{flat_map}
@@ -9,13 +9,12 @@ use Rattle.std.proofs.lemmas.List.Elements.{All-contains, Contains-append_left, 
 use Rattle.std.proofs.lemmas.List.FromFn.{map-range_with_len_more}
 use Rattle.std.proofs.lemmas.Grind.{flat_map-append}
 use Rattle.pm_model.specs.Fixed.{entry_at, ready_at, state_at, commit_word_at, last_at}
-use Rattle.pm_model.specs.Places.{below, place_in, is_pointer, is_pointer_to, is_null_or_pointer_to, is_in_segment}
+use Rattle.pm_model.specs.Places.{below, is_pointer, is_pointer_to, is_null_or_pointer_to, is_in_segment}
 use Rattle.pm_model.specs.Records.{segment_entry_at}
 use Rattle.pm_model.specs.Objects.{entry_places, commit_word, pointer_after, ready_count, segment_pointer_at, segment_of}
 use Rattle.pm_model.specs.Checks.{Check, check, Keeps}
 use Rattle.pm_model.specs.EntryRules.{objects_rule, object_rule, is_segment_pointer}
 use Rattle.pm_model.proofs.Members.{below-Contains, map-Contains, flat_map-Contains, Contains-there, Contains-here}
-use Rattle.pmem_recover.specs.Filled.{is_filled}
 use Rattle.pmem_recover.proofs.LaneChanges.{pointer_parts}
 
 -- ── places gathered one by one ──

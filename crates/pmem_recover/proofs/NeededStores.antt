@@ -1,9 +1,9 @@
 -- The needed stores of a part leave what all of its stores leave, and they are a part.
-use Rattle.std.proofs.Common.{◌≡◌, ◌⊎◌, ⊎_elim, ℕ, ◌<◌, true, false, ◌||◌, eqb, List, [], ◌∷◌, ◌++◌, length, get_or, set, refl, sym, ◌∙◌, ap, arith}
+use Rattle.std.proofs.Common.{◌≡◌, ⊎_elim, ℕ, true, false, ◌||◌, eqb, List, [], ◌∷◌, length, get_or, set, refl, sym, ◌∙◌, ap, arith}
 use Rattle.std.proofs.lemmas.List.{get_or-set_same, get_or-set_other, get_or_past, length-set}
 use Rattle.std.proofs.lemmas.Bool.{cases_lt, cases_eq, cases_Bool, both_ways, eqb-true, or_cases, or_parts, or_from, cond_both}
 use Rattle.pm_model.specs.Device.{writes}
-use Rattle.pm_model.specs.Plans.{Part, store, unless_empty, words_after, footprint}
+use Rattle.pm_model.specs.Plans.{Part, store, words_after, footprint}
 use Rattle.pm_model.specs.Needed.{is_stored_later, is_there, needed_stores}
 use Rattle.pm_model.proofs.Words.{ext_words}
 use Rattle.pm_model.proofs.Alone.{length-words_after}

@@ -1,11 +1,11 @@
 -- A part of several changes, and then parts of one change each.
-use Rattle.std.proofs.Common.{◌≡◌, ◌≢◌, ℕ, suc, ◌+◌, ◌<◌, ◌≤◌, Bool, true, false, cond, eqb, List, [], ◌∷◌, ◌++◌, length, get_or, set, take, drop, refl, sym, ◌∙◌, ap, subst, append_assoc, arith}
+use Rattle.std.proofs.Common.{◌≡◌, ◌≢◌, ℕ, suc, ◌+◌, ◌<◌, ◌≤◌, Bool, cond, List, [], ◌∷◌, ◌++◌, length, get_or, set, take, drop, sym, ◌∙◌, ap, append_assoc, arith}
 use Rattle.std.proofs.lemmas.List.{append-nil, drop_more, drop_all}
 use Rattle.std.proofs.lemmas.Bool.{eq-eqb, ne_eqb}
 use Rattle.std.proofs.lemmas.Grind.{flat_map-append}
 use Rattle.std.proofs.Math.Seq.{take-suc}
 use Rattle.pm_model.specs.declared.action.Action.{Action}
-use Rattle.pm_model.specs.Plans.{Part, one_store, unless_empty, words_after, part_actions, plan_of, finished}
+use Rattle.pm_model.specs.Plans.{Part, one_store, unless_empty, part_actions, plan_of, finished}
 use Rattle.pm_model.specs.Needed.{needed_stores, needed_parts}
 use Rattle.pmem_recover.specs.declared.change.Change.{Change}
 use Rattle.pmem_recover.specs.Changes.{change_part, change_parts}

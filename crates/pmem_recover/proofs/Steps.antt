@@ -1,15 +1,15 @@
 -- Which numbers have something to mend, and the plans of steps that make one store.
-use Rattle.std.proofs.Common.{◌≡◌, ◌≢◌, ◌⊎◌, ⊎_elim, ℕ, ◌+◌, ◌<◌, ◌≤◌, Bool, true, false, not, ◌&&◌, cond, eqb, List, [], ◌∷◌, ◌++◌, length, get_or, max, map, refl, sym, ◌∙◌, ap, subst, arith}
+use Rattle.std.proofs.Common.{◌≡◌, ◌≢◌, ℕ, ◌+◌, Bool, true, false, not, ◌&&◌, cond, eqb, List, [], ◌∷◌, ◌++◌, length, get_or, max, map, refl, sym, ◌∙◌, ap, arith}
 use Rattle.std.specs.Prelude.{fold}
 use Rattle.std.proofs.lemmas.Bool.{both_ways, eqb-true, ne_eqb, eq-eqb, and_parts, cond-true, cond-false}
 use Rattle.std.proofs.lemmas.List.{length-append}
 use Rattle.std.proofs.lemmas.List.FromFn.{map-range_with_len_more}
 use Rattle.pm_model.specs.declared.action.Action.{Action}
 use Rattle.pm_model.specs.declared.action.Action.TheVariants.{Flush, Fence}
-use Rattle.pm_model.specs.Fixed.{state_at, commit_word_at, last_at}
+use Rattle.pm_model.specs.Fixed.{state_at, last_at}
 use Rattle.pm_model.specs.Places.{below}
 use Rattle.pm_model.specs.Plans.{Part, lines_of, one_store, part_actions, part_end, plan_of, unless_empty, words_after}
-use Rattle.pm_model.specs.Needed.{needed_stores, needed_parts}
+use Rattle.pm_model.specs.Needed.{needed_parts}
 use Rattle.pm_model.specs.Objects.{is_open, commit_word, open_commit, last_commit}
 use Rattle.shown_state.specs.Mending.{Mending, close_mending, last_mending}
 use Rattle.pmem_recover.specs.Steps.{step_parts}

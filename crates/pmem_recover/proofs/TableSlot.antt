@@ -1,5 +1,5 @@
 -- The slot of a table that was being created: the one at the table count.
-use Rattle.std.proofs.Common.{◌≡◌, ◌≢◌, ◌⊎◌, ⊎_elim, ℕ, ◌<◌, ◌≤◌, Bool, true, false, ◌||◌, cond, eqb, ltb, List, [], ◌∷◌, ◌++◌, get_or, refl, sym, ◌∙◌, ap, subst, arith}
+use Rattle.std.proofs.Common.{◌≡◌, ◌≢◌, ⊎_elim, ℕ, ◌<◌, ◌≤◌, true, ◌||◌, cond, eqb, ltb, List, [], ◌∷◌, get_or, sym, ◌∙◌, ap, arith}
 use Rattle.std.specs.Prelude.{IsTrue}
 use Rattle.std.specs.List.{flat_map}
 use Rattle.std.proofs.lemmas.Bool.{eqb-true, eq-eqb, ne_eqb, lt-ltb, le-ltb, or_cases, cond-true, cond-false}
@@ -7,7 +7,6 @@ use Rattle.std.proofs.lemmas.List.{append-nil}
 use Rattle.std.proofs.lemmas.List.Elements.{All-contains}
 use Rattle.pm_model.specs.Fixed.{table_slot_at}
 use Rattle.pm_model.specs.Places.{below}
-use Rattle.pm_model.specs.Plans.{Part}
 use Rattle.pm_model.specs.Needed.{needed_parts}
 use Rattle.pm_model.specs.Blocks.{is_block_pointer}
 use Rattle.pm_model.specs.Tables.{table_count}

@@ -1,9 +1,8 @@
 -- What opening does to a lane that a power cut left at work, and which lanes have something to mend.
-use Rattle.std.specs.Prelude.{◌≡◌, ◌≢◌, ℕ, ◌<◌, ◌≤◌, ◌==◌, if◌then◌else◌, List, [], ◌∷◌, length, slice_index}
-use Rattle.pm_model.specs.declared.action.Action.{Action}
+use Rattle.std.specs.Prelude.{◌≡◌, ℕ, ◌<◌, ◌≤◌, ◌==◌, if◌then◌else◌, List, [], ◌∷◌, length, slice_index}
 use Rattle.pm_model.specs.Fixed.{descriptor_at, lane_op_at, lane_dest_at, lane_block_at}
 use Rattle.pm_model.specs.Places.{page_of, place_in}
-use Rattle.pm_model.specs.Plans.{Part, plan_of}
+use Rattle.pm_model.specs.Plans.{Part}
 use Rattle.pm_model.specs.Needed.{needed_parts}
 use Rattle.pm_model.specs.Checks.{Keeps}
 use Rattle.pm_model.specs.HeapRules.{lane_rule}
@@ -42,18 +41,6 @@ lane_parts words lane = needed_parts words (change_parts (lane_changes words lan
 pub record KeepsLaneRules (words : List ℕ) : Type 0 where
   pub heap : KeepsHeapRules words
   pub lanes : Keeps words lane_rule
-
--- the first lane from a number on that has something to mend, and the actions that mend it
-pub record IsNextLane (words : List ℕ) (from lane : ℕ) (plan : List Action) : Type 0 where
-  pub is_from : from ≤ lane
-  pub lane_is : lane < 16
-  pub some : lane_parts words lane ≢ []
-  pub plan_is : plan ≡ plan_of (lane_parts words lane)
-  pub passed : (other : ℕ) → from ≤ other → other < lane → lane_parts words other ≡ []
-
--- no lane from a number on has anything to mend
-abbrev pub NoLaneFrom : List ℕ → ℕ → Type 0
-NoLaneFrom words from = (lane : ℕ) → from ≤ lane → lane < 16 → lane_parts words lane ≡ []
 
 -- What a lane's mending relies on: the rules, the words of the lanes, and where the lane frees, that its owner's word can
 -- be one.

@@ -5,7 +5,8 @@ ghost use Rattle.pm_model.specs.Places.{place_in, is_pointer};
 ghost use Rattle.pm_model.specs.Plans.{plan_of};
 ghost use Rattle.pm_model.specs.Blocks.{is_slot};
 ghost use Rattle.pmem_recover.specs.Changes.{change};
-ghost use Rattle.pmem_recover.specs.Lanes.{release as released_change, lane_parts, KeepsLaneRules, IsNextLane, NoLaneFrom};
+ghost use Rattle.pmem_recover.specs.Lanes.{release as released_change, lane_parts, KeepsLaneRules};
+ghost use Rattle.pmem_recover.specs.Steps.{IsNext, NoneFrom};
 
 use crate::change::{CHANGE_ACTIONS, Change, push_needed};
 use crate::layout::{ALLOCATING, FIRST_SLOT, IDLE, SMALL_PAGE};
@@ -27,8 +28,8 @@ pub fn next_lane<M: Memory>(
     from: u32,
 ) -> Result<Option<(u32, Plan)>, NoMemory>
     requires { KeepsLaneRules (M.device mem.now).cached }
-    ensures next { IfOk result (λ found. IfSome found (λ next. IsNextLane (M.device mem.now).cached from next.0 next.1.left)) }
-    ensures none { IfOk result (λ found. IsNone found ↔ NoLaneFrom (M.device mem.now).cached from) }
+    ensures next { IfOk result (λ found. IfSome found (λ next. IsNext (lane_parts (M.device mem.now).cached) 16 from next.0 next.1.left)) }
+    ensures none { IfOk result (λ found. IsNone found ↔ NoneFrom (lane_parts (M.device mem.now).cached) 16 from) }
 {
     for lane in from..u32::from(LANES) {
         if mem.load(lane_op(lane as u8)) != IDLE {

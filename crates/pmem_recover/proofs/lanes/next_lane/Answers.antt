@@ -18,7 +18,7 @@ found_some g c =
 pub returns-then-load-ne-IDLE-clause-next : goal.returns-then-load-ne-IDLE-clause-next
 returns-then-load-ne-IDLE-clause-next g c = record {
   is_from = c.loop-lane.auto.lane;
-  lane_is = omega (arith, c.loop-lane-test.true, c.from-lane-end.ensures);
+  number_is = omega (arith, c.loop-lane-test.true, c.from-lane-end.ensures);
   some = found_some g c;
   plan_is = c.in_ok-plan_lane.ensures;
   passed = c.loop-lane.invariant;

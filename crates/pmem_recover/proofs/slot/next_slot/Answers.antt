@@ -1,4 +1,4 @@
-use Rattle.std.proofs.Common.{◌≡◌, ℕ, ◌∙◌, ap, refl, arith}
+use Rattle.std.proofs.Common.{◌≡◌, ◌∙◌, ap, refl, arith}
 use Rattle.shown_state.specs.Mending.{slot_mending}
 use Rattle.pmem_recover.specs.Steps.{step_parts}
 use Rattle.pmem_recover.proofs.Steps.{none-planned}
