@@ -9,3 +9,4 @@ pub mod Capacities
 pub mod NameChecks
 pub mod EntryChecks
 pub mod RestChecks
+pub mod DistinctChecks

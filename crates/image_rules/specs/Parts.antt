@@ -1,5 +1,5 @@
 -- Parts of the rules, which a function of their own tries.
-use Rattle.std.specs.Prelude.{ℕ, ◌+◌, ◌≤◌, List, [], ◌∷◌, ◌++◌, map, length, slice_index}
+use Rattle.std.specs.Prelude.{ℕ, zero, suc, ◌+◌, ◌≤◌, List, [], ◌∷◌, ◌++◌, map, length, slice_index}
 use Rattle.std.specs.List.{flat_map}
 use Rattle.pm_model.specs.Fixed.{commit_word_at, state_at}
 use Rattle.pm_model.specs.Places.{below, is_null_or_pointer_to}
@@ -38,3 +38,8 @@ next_slot_rule words = map (zero_check words) (next_table_slots words)
 -- an object's state, its commit word and its entries are 0
 abbrev pub object_zeros : List ℕ → ℕ → List Check
 object_zeros words object = map (zero_check words) (state_at object ∷ commit_word_at object ∷ entry_places words object)
+
+-- what stands for the numbers below one, the last one first
+abbrev pub before_of : (ℕ → ℕ) → ℕ → List ℕ
+before_of f zero = []
+before_of f (suc k) = f k ∷ before_of f k

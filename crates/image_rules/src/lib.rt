@@ -6,6 +6,7 @@
 #![tactic(auto)]
 
 mod array_rules;
+mod distinct_rules;
 mod entry_rules;
 mod first_words;
 mod heap_rules;
@@ -18,6 +19,7 @@ mod rest_rules;
 mod table_rules;
 
 pub use array_rules::{arrays_fault, capacity, chunk_words};
+pub use distinct_rules::distinct_name_fault;
 pub use entry_rules::{entries_fault, next_segment, ready_count};
 pub use first_words::{last_fault, magic_fault, version_fault};
 pub use heap_rules::{bitmap_fault, descriptor_fault, is_small_page, reserved_fault};

@@ -1,0 +1,9 @@
+use Rattle.std.proofs.Common.{◌≡◌, false}
+use Rattle.std.specs.List.{list_any}
+use Rattle.pm_model.specs.Records.{column_at, column_name_at}
+use Rattle.pm_model.specs.SoundRules.{same_name}
+use Rattle.image_rules.specs.Parts.{before_of}
+use Rattle.image_rules.proofs.distinct_rules.is_column_name.Given as goal
+
+abbrev pub invariant-loop-number : goal.invariant-loop-number
+invariant-loop-number l = list_any (same_name l.words l.name.0) (before_of (λ k. column_name_at (column_at l.block.0 k)) l.number) ≡ false
