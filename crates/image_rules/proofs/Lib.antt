@@ -8,3 +8,8 @@ pub mod ArrayChecks
 pub mod Capacities
 pub mod NameChecks
 pub mod EntryChecks
+pub mod BlockSizes
+pub mod OwnerWalk
+pub mod LiveChecks
+pub mod OwnerChecks
+pub mod OwnedChecks

@@ -81,15 +81,16 @@ pub(crate) fn descriptor_place(page: u32) -> u32
     descriptor(Page(page as u16)).0
 }
 
-fn page_count(words: &[u64]) -> u32
+/// How many pages an image has.
+pub(crate) fn page_count(words: &[u64]) -> u32
     requires { length words.now ≤ 4194304 }
     ensures { result ≡ length words.now / 512 }
 {
     (words.len() / PAGE_WORDS as usize) as u32
 }
 
-// Whether a page stands inside a big block, behind its head.
-fn is_inside(words: &[u64], page: u32) -> bool
+/// Whether a page stands inside a big block, behind its head. It reads the descriptors of its segment before it.
+pub(crate) fn is_inside(words: &[u64], page: u32) -> bool
     requires in_image { 512 * page < length words.now }
     requires most { length words.now ≤ 4194304 }
     ensures { result ≡ page_is_inside words.now page }
@@ -102,9 +103,9 @@ fn is_inside(words: &[u64], page: u32) -> bool
     inside > 0
 }
 
-// How many pages of a big block are left behind a page, by how many are left from it on if it is inside one. Where its
-// segment ends, so does the block.
-fn left_behind(inside: u64, page: u32, descriptor: u64) -> u64
+/// How many pages of a big block are left behind a page, by how many are left from it on if it is inside one. Where its
+/// segment ends, so does the block.
+pub(crate) fn left_behind(inside: u64, page: u32, descriptor: u64) -> u64
     ensures { result ≡ (if (page + 1) % 64 == 0 then 0 else inside_after inside descriptor) }
 {
     if page % SEGMENT_PAGES == SEGMENT_PAGES - 1 {
@@ -116,7 +117,8 @@ fn left_behind(inside: u64, page: u32, descriptor: u64) -> u64
     }
 }
 
-fn says_small(descriptor: u64) -> bool
+/// Whether a descriptor is that of a small page.
+pub(crate) fn says_small(descriptor: u64) -> bool
     ensures { result ≡ small_descriptor descriptor }
 {
     SMALL_PAGE <= descriptor && descriptor <= LAST_SMALL_PAGE

@@ -13,6 +13,8 @@ mod lane_rules;
 mod layout;
 mod name_rules;
 mod object_rules;
+mod owner_rules;
+mod owner_words;
 mod pointers;
 mod table_rules;
 
@@ -24,6 +26,7 @@ pub use lane_rules::lane_fault;
 pub use layout::{ALLOCATING, FIRST_SLOT, IDLE, SMALL_PAGE};
 pub use name_rules::name_fault;
 pub use object_rules::objects_fault;
+pub use owner_rules::{owned_fault, owner_fault, single_owner_fault};
 pub use pointers::{is_block_pointer, is_null_or_words, pointed_place, pointed_words};
 pub use table_rules::{
     columns_of, published_tables, table_block, table_count_fault, table_slot_fault,
