@@ -13,3 +13,4 @@ pub mod OwnerWalk
 pub mod LiveChecks
 pub mod OwnerChecks
 pub mod OwnedChecks
+pub mod BuiltOwners
