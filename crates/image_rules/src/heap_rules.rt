@@ -89,8 +89,8 @@ pub(crate) fn page_count(words: &[u64]) -> u32
     (words.len() / PAGE_WORDS as usize) as u32
 }
 
-// Whether a page stands inside a big block, behind its head.
-fn is_inside(words: &[u64], page: u32) -> bool
+/// Whether a page stands inside a big block, behind its head. It reads the descriptors of its segment before it.
+pub(crate) fn is_inside(words: &[u64], page: u32) -> bool
     requires in_image { 512 * page < length words.now }
     requires most { length words.now ≤ 4194304 }
     ensures { result ≡ page_is_inside words.now page }
@@ -117,7 +117,8 @@ pub(crate) fn left_behind(inside: u64, page: u32, descriptor: u64) -> u64
     }
 }
 
-fn says_small(descriptor: u64) -> bool
+/// Whether a descriptor is that of a small page.
+pub(crate) fn says_small(descriptor: u64) -> bool
     ensures { result ≡ small_descriptor descriptor }
 {
     SMALL_PAGE <= descriptor && descriptor <= LAST_SMALL_PAGE

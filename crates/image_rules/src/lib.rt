@@ -2,6 +2,8 @@
 //!
 //! - `NAME_fault` gives the place of the first check of `NAME_rule` that fails, and none where the image keeps the rule.
 //!   A rule is tried after those that it relies on.
+//! - The rules of owner words are tried of tables, arrays and transaction objects: `built_owners_law` says that these are
+//!   all, where the tree of each column is empty.
 //! - `pointed_place`, `pointed_words` and `is_block_pointer` say what a word points to.
 #![tactic(auto)]
 
@@ -14,6 +16,9 @@ mod lane_rules;
 mod layout;
 mod name_rules;
 mod object_rules;
+mod owner_laws;
+mod owner_rules;
+mod owner_words;
 mod pointers;
 mod rest_rules;
 mod table_rules;
@@ -26,6 +31,8 @@ pub use heap_rules::{bitmap_fault, descriptor_fault, is_small_page, reserved_fau
 pub use lane_rules::lane_fault;
 pub use name_rules::name_fault;
 pub use object_rules::objects_fault;
+pub use owner_laws::built_owners_law;
+pub use owner_rules::{owned_fault, owner_fault, single_owner_fault};
 pub use pointers::{is_block_pointer, is_null_or_words, pointed_place, pointed_words};
 pub use rest_rules::{closed_fault, given_back_fault, idle_fault, next_slot_fault};
 pub use table_rules::{

@@ -1,0 +1,93 @@
+-- The owner words so far, as a walk goes on.
+use Rattle.std.proofs.Common.{◌≡◌, ℕ, ◌+◌, eqb, not, List, [], ◌∷◌, ◌++◌, map, get_or, refl, sym, ◌∙◌, ap, append_assoc, arith}
+use Rattle.std.specs.Prelude.{filter}
+use Rattle.std.specs.List.{range_with_len, flat_map}
+use Rattle.std.proofs.lemmas.Bool.{eq-eqb, ne_eqb, cond-true, cond-false}
+use Rattle.std.proofs.lemmas.List.{append-nil, map-append}
+use Rattle.std.proofs.lemmas.List.Elements.{filter-append}
+use Rattle.std.proofs.lemmas.List.Concat.{flat_map-append}
+use Rattle.std.proofs.lemmas.List.Folds.{flat_map-map}
+use Rattle.std.proofs.lemmas.List.FromFn.{map-range_with_len_more}
+use Rattle.pm_model.specs.Fixed.{table_slot_at}
+use Rattle.pm_model.specs.Places.{below}
+use Rattle.pm_model.specs.Records.{column_at, columns_at, table_words, created_header, ended_header}
+use Rattle.pm_model.specs.Tables.{table_block, table_count}
+use Rattle.pm_model.specs.Owners.{Owner, owner_of, names_one, array_owners, object_owners}
+use Rattle.image_rules.specs.declared.owner_words.OwnerWord.{OwnerWord}
+use Rattle.image_rules.specs.BuiltOwners.{as_read, built_column_owners, built_block_owners, built_table_owners, built_owner_words}
+
+below-more : (k : ℕ) → below (k + 1) ≡ below k ++ k ∷ []
+below-more k = sym (same (range_with_len 0 (k + 1))) ∙ map-range_with_len_more (λ (x : ℕ). x) 0 k k (omega arith) ∙ ap (λ (xs : List ℕ). xs ++ k ∷ []) (same (below k))
+  where
+    same : (xs : List ℕ) → map (λ (x : ℕ). x) xs ≡ xs
+    same [] = refl
+    same (x ∷ xs) = ap (λ (ys : List ℕ). x ∷ ys) (same xs)
+
+module _ (words : List ℕ) where
+  abbrev pub read : List Owner → List OwnerWord
+  read owners = map (as_read words) owners
+
+  pub read-append : (base found more : List OwnerWord) (xs ys : List Owner) → found ≡ base ++ read xs → more ≡ found ++ read ys → more ≡ base ++ read (xs ++ ys)
+  read-append base found more xs ys so_far then =
+      then ∙ ap (λ (os : List OwnerWord). os ++ read ys) so_far ∙ append_assoc base (read xs) (read ys) ∙ ap (λ (os : List OwnerWord). base ++ os) (sym (map-append (as_read words) xs ys))
+
+  pub read-none : (base found : List OwnerWord) → found ≡ base → found ≡ base ++ []
+  read-none base found is = is ∙ sym (append-nil base)
+
+  -- those that name a block, of the first so many
+  abbrev pub named : (ℕ → Owner) → ℕ → List Owner
+  named f k = filter (names_one words) (map f (below k))
+
+  named-more : (f : ℕ → Owner) (k : ℕ) → named f (k + 1) ≡ named f k ++ filter (names_one words) (f k ∷ [])
+  named-more f k = ap (filter (names_one words)) (map-range_with_len_more f 0 k k (omega arith)) ∙ filter-append (names_one words) (map f (below k)) (f k ∷ [])
+
+  pub named_next : (f : ℕ → Owner) (k place count : ℕ) (base found more : List OwnerWord) → owner_of place count ≡ f k → found ≡ base ++ read (named f k)
+      → more ≡ found ++ read (filter (names_one words) (owner_of place count ∷ [])) → more ≡ base ++ read (named f (k + 1))
+  named_next f k place count base found more is so_far then =
+      read-append base found more (named f k) (filter (names_one words) (f k ∷ [])) so_far (then ∙ ap (λ (o : Owner). found ++ read (filter (names_one words) (o ∷ []))) is)
+      ∙ ap (λ (os : List Owner). base ++ read os) (sym (named-more f k))
+
+  -- one owner word, where it names a block
+  pub none_named : (place count : ℕ) (found : List OwnerWord) → get_or words place 0 ≡ 0 → found ≡ found ++ read (filter (names_one words) (owner_of place count ∷ []))
+  none_named place count found none =
+      sym (append-nil found)
+      ∙ ap (λ (os : List Owner). found ++ read os) (sym (cond-false (not (eqb (get_or words place 0) 0)) (owner_of place count ∷ []) [] (ap not (eq-eqb (get_or words place 0) 0 none))))
+
+  pub one_named : (place count : ℕ) (found more : List OwnerWord) → (get_or words place 0 ≡ 0 → ⊥) → more ≡ found ++ as_read words (owner_of place count) ∷ []
+      → more ≡ found ++ read (filter (names_one words) (owner_of place count ∷ []))
+  one_named place count found more some then =
+      then ∙ ap (λ (os : List Owner). found ++ read os) (sym (cond-true (not (eqb (get_or words place 0) 0)) (owner_of place count ∷ []) [] (ap not (ne_eqb (get_or words place 0) 0 some))))
+
+  -- the owner words of the first so many parts
+  abbrev pub parts : (ℕ → List Owner) → ℕ → List Owner
+  parts g k = flat_map g (below k)
+
+  parts-more : (g : ℕ → List Owner) (k : ℕ) → parts g (k + 1) ≡ parts g k ++ g k
+  parts-more g k = ap (flat_map g) (below-more k) ∙ flat_map-append g (below k) (k ∷ []) ∙ ap (λ (os : List Owner). parts g k ++ os) (append-nil (g k))
+
+  pub parts_next : (g : ℕ → List Owner) (k : ℕ) (base found more : List OwnerWord) → found ≡ base ++ read (parts g k) → more ≡ found ++ read (g k) → more ≡ base ++ read (parts g (k + 1))
+  parts_next g k base found more so_far then = read-append base found more (parts g k) (g k) so_far then ∙ ap (λ (os : List Owner). base ++ read os) (sym (parts-more g k))
+
+  -- ── a table ──
+
+  abbrev pub numbered_columns : ℕ → ℕ → List Owner
+  numbered_columns block number = built_column_owners words (column_at block number)
+
+  pub table_read : (table block slot count : ℕ) (base a b c found : List OwnerWord) → block ≡ table_block words table → slot ≡ table_slot_at table → count ≡ table_words (get_or words (columns_at block) 0)
+      → a ≡ base ++ as_read words (owner_of slot count) ∷ [] → b ≡ a ++ read (array_owners words (created_header block)) → c ≡ b ++ read (array_owners words (ended_header block))
+      → found ≡ c ++ read (parts (numbered_columns block) (get_or words (columns_at block) 0)) → found ≡ base ++ read (built_table_owners words table)
+  table_read table block slot count base a b c found block_is slot_is count_is first created ended columns =
+      let k : ℕ = get_or words (columns_at block) 0 in
+      let one : List Owner = owner_of slot count ∷ [] in
+      let own : List Owner = one ++ array_owners words (created_header block) in
+      let arrays : List Owner = own ++ array_owners words (ended_header block) in
+      read-append base c found arrays (parts (numbered_columns block) k) (read-append base b c own (array_owners words (ended_header block)) (read-append base a b one (array_owners words (created_header block)) first created) ended) columns
+      ∙ ap (λ (os : List Owner). base ++ read (owner_of slot count ∷ (array_owners words (created_header block) ++ array_owners words (ended_header block) ++ os))) (sym (flat_map-map (built_column_owners words) (column_at block) (below k)))
+      ∙ ap (λ (o : Owner). base ++ read (o ∷ built_block_owners words block)) (ap (λ (p : ℕ). owner_of p count) slot_is ∙ ap (owner_of (table_slot_at table)) count_is)
+      ∙ ap (λ (b : ℕ). base ++ read (owner_of (table_slot_at table) (table_words (get_or words (columns_at b) 0)) ∷ built_block_owners words b)) block_is
+
+  -- ── all of them ──
+
+  pub all_read : (tables found : List OwnerWord) → tables ≡ read (parts (built_table_owners words) (table_count words)) → found ≡ tables ++ read (parts (object_owners words) 16) → found ≡ read (built_owner_words words)
+  unfolding built_owner_words
+  all_read tables found first then = read-append [] tables found (parts (built_table_owners words) (table_count words)) (parts (object_owners words) 16) first then

@@ -1,0 +1,5 @@
+use Rattle.image_rules.proofs.BuiltOwners.{owners_same, owner_rule_same, single_owner_rule_same, owned_rule_same}
+use Rattle.image_rules.proofs.owner_laws.built_owners_law.Goals as goal
+
+pub returns : goal.returns
+returns c = record { owners = owners_same; named = owner_rule_same; single = single_owner_rule_same; owned = owned_rule_same }

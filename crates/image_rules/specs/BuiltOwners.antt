@@ -1,0 +1,79 @@
+-- The owner words of the parts of an image that are built: tables, arrays and transaction objects. The leaves of trees and
+-- the texts of dictionaries join them with trees. Until then each column has an empty tree, and so none of either, and
+-- these are all the owner words of the image, and the three rules here are those of the image.
+use Rattle.std.specs.Prelude.{◌≡◌, ℕ, ◌+◌, ◌-◌, ◌*◌, ◌/◌, Bool, ◌&&◌, ◌==◌, nat_lt, List, [], ◌∷◌, ◌++◌, map, filter, Contains, slice_index}
+use Rattle.std.specs.List.{flat_map}
+use Rattle.std.specs.Int.{bit_at}
+use Rattle.std.specs.Ordering.{nat_cmp}
+use Rattle.std.specs.BTreeSet.{BTreeSet, contains}
+use Rattle.pm_model.specs.Pointer.{pointer_word}
+use Rattle.pm_model.specs.Places.{below}
+use Rattle.pm_model.specs.Records.{codes_header, created_header, dictionary_header, ended_header, first_leaf_at}
+use Rattle.pm_model.specs.Blocks.{Block, slot_words, slots_of, slot_at, says_big, live_blocks}
+use Rattle.pm_model.specs.Tables.{table_count, table_block, columns_of, all_columns}
+use Rattle.pm_model.specs.Owners.{Owner, word_of, array_owners, table_owner, object_owners, owns_block}
+use Rattle.pm_model.specs.Checks.{Check, check, Rule}
+use Rattle.pm_model.specs.EntryRules.{is_among}
+use Rattle.pm_model.specs.SoundRules.{distinct_checks}
+use Rattle.image_rules.specs.declared.owner_words.OwnerWord.{OwnerWord}
+
+abbrev pub built_column_owners : List ℕ → ℕ → List Owner
+built_column_owners words column = array_owners words (codes_header column) ++ array_owners words (dictionary_header column)
+
+abbrev pub built_block_owners : List ℕ → ℕ → List Owner
+built_block_owners words block =
+    array_owners words (created_header block) ++ array_owners words (ended_header block) ++ flat_map (built_column_owners words) (columns_of words block)
+
+-- a table's slot, then the chunk pointers of its arrays
+abbrev pub built_table_owners : List ℕ → ℕ → List Owner
+built_table_owners words table = table_owner words table ∷ built_block_owners words (table_block words table)
+
+-- all of them, in the order of the walk: table by table, then object by object
+unfoldable pub built_owner_words : List ℕ → List Owner
+built_owner_words words = flat_map (built_table_owners words) (below (table_count words)) ++ flat_map (object_owners words) (below 16)
+
+-- 19: each owner word names the first word of a live block of the kind and size that its owner needs
+unfoldable pub built_owner_rule : Rule
+built_owner_rule words = map (λ owner. check owner.at (owns_block words owner)) (built_owner_words words)
+
+-- 20: no block has two owners
+unfoldable pub built_single_owner_rule : Rule
+built_single_owner_rule words = distinct_checks words [] (map (λ owner. owner.at) (built_owner_words words))
+
+-- a block has an owner among words
+abbrev pub owned_check : List ℕ → Block → Check
+owned_check owned block = check block.first (is_among owned (pointer_word block.first))
+
+-- 21: each live block has an owner
+unfoldable pub built_owned_rule : Rule
+built_owned_rule words = map (owned_check (map (word_of words) (built_owner_words words))) (live_blocks words)
+
+-- a used slot of a small page, of so many words, begins at an offset in the page
+abbrev pub is_slot_block : ℕ → ℕ → ℕ → ℕ → Bool
+is_slot_block bitmap class offset count =
+    let slot = (offset - 8) / slot_words class in
+    (slot_words class == count) && nat_lt slot (slots_of class) && (8 + slot * slot_words class == offset) && (bit_at bitmap slot == 1)
+
+-- a page with this descriptor is the head of a big block of so many words, and the offset in the page is where it begins
+abbrev pub is_head_block : ℕ → ℕ → ℕ → Bool
+is_head_block descriptor offset count = says_big descriptor && (offset == 0) && (512 * (descriptor - 16) == count)
+
+-- a set has just these words
+pub record HasWords (held : BTreeSet ℕ) (owned : List ℕ) : Type 0 where
+  pub each : (word : ℕ) → contains nat_cmp held word ≡ is_among owned word
+
+-- a block has an owner among the words of a set
+abbrev pub kept_check : BTreeSet ℕ → Block → Check
+kept_check held block = check block.first (contains nat_cmp held (pointer_word block.first))
+
+-- the live blocks of a small page of a class, by its bitmap
+abbrev pub slot_blocks : ℕ → ℕ → ℕ → List Block
+slot_blocks page class bitmap = map (λ slot. record { first = slot_at page class slot; words = slot_words class }) (filter (λ slot. bit_at bitmap slot == 1) (below (slots_of class)))
+
+-- no column has a leaf
+pub record HasEmptyTrees (words : List ℕ) : Type 0 where
+  pub none : (column : ℕ) → Contains (all_columns words) column → slice_index words (first_leaf_at column) ≡ 0
+
+-- an owner word with what it holds
+abbrev pub as_read : List ℕ → Owner → OwnerWord
+as_read words owner = record { place = owner.at; word = word_of words owner; block_words = owner.block_words }

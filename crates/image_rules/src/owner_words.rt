@@ -1,0 +1,171 @@
+// The owner words of tables, arrays and transaction objects, gathered in one walk.
+ghost use Rattle.std.specs.Prelude.{◌≡◌, ◌+◌, ◌%◌, ◌<◌, ◌≤◌, ◌++◌, [], ◌∷◌, filter, map, IfOk, length, slice_index};
+ghost use Rattle.pm_model.specs.Tables as tables;
+ghost use Rattle.pm_model.specs.Blocks.{block_words as words_of_block};
+ghost use Rattle.pm_model.specs.Owners.{array_owners, names_one, object_owners, owner_of};
+ghost use Rattle.pm_model.specs.Checks.{Keeps};
+ghost use Rattle.pm_model.specs.EntryRules.{table_count_rule, table_slot_rule, objects_rule};
+ghost use Rattle.image_rules.specs.BuiltOwners.{as_read, built_column_owners, built_table_owners, built_owner_words};
+
+use crate::array_rules::chunk_words;
+use crate::entry_rules::{next_segment, ready_count};
+use crate::table_rules::{columns_of, published_tables, table_block};
+use heap_small::{class_for, class_words};
+use pm_model::{
+    ENTRY_SEGMENT_WORDS, NoMemory, OBJECTS, PAGE_WORDS, Place, chunk_pointer, codes_header, column,
+    created_header, dictionary_header, ended_header, segment_pointer, table_slot, table_words,
+};
+use std::alloc::Global;
+
+// How many chunks an array has at most.
+const MAX_CHUNKS: u32 = 12;
+
+/// An owner word: its place, what it holds, and how many words the block has that its owner needs.
+#[derive(Clone, Copy)]
+pub(crate) struct OwnerWord {
+    pub(crate) place: u32,
+    pub(crate) word: u64,
+    pub(crate) block_words: u32,
+}
+
+/// The owner words, in the order of the walk: table by table its slot and the chunk pointers of its arrays, and then
+/// object by object the pointers to its segments.
+pub(crate) fn owner_words(alloc: Global, words: &[u64]) -> Result<Vec<OwnerWord>, NoMemory>
+    requires segments { length words.now % 32768 ≡ 0 }
+    requires one_or_more { 32768 ≤ length words.now }
+    requires most { length words.now ≤ 4194304 }
+    requires tables { Keeps words.now table_count_rule }
+    requires slots { Keeps words.now table_slot_rule }
+    requires objects { Keeps words.now objects_rule }
+    ensures { IfOk result (λ owners. owners.items ≡ map (as_read words.now) (built_owner_words words.now)) }
+{
+    let mut owners = Vec::new(alloc);
+    for table in 0..published_tables(words) {
+        push_table_owners(&mut owners, words, table)?;
+    }
+    for object in 0..OBJECTS {
+        push_object_owners(&mut owners, words, object)?;
+    }
+    Ok(owners)
+}
+
+fn push_table_owners(owners: &mut Vec<OwnerWord>, words: &[u64], table: u8) -> Result<(), NoMemory>
+    requires table { table < 32 }
+    requires published { table < tables.table_count words.now }
+    requires segments { length words.now % 32768 ≡ 0 }
+    requires one_or_more { 32768 ≤ length words.now }
+    requires most { length words.now ≤ 4194304 }
+    requires slots { Keeps words.now table_slot_rule }
+    ensures { IfOk result (λ _. owners.new.items ≡ owners.old.items ++ map (as_read words.now) (built_table_owners words.now table)) }
+{
+    let block = table_block(words, table);
+    let columns = columns_of(words, block);
+    push_owner(owners, words, table_slot(table), table_words(columns))?;
+    push_array_owners(owners, words, created_header(block))?;
+    push_array_owners(owners, words, ended_header(block))?;
+    for number in 0..columns {
+        push_column_owners(owners, words, column(block, number))?;
+    }
+    Ok(())
+}
+
+fn push_column_owners(
+    owners: &mut Vec<OwnerWord>,
+    words: &[u64],
+    column: Place,
+) -> Result<(), NoMemory>
+    requires most { length words.now ≤ 4194304 }
+    requires within { column.0 + 40 ≤ length words.now }
+    ensures { IfOk result (λ _. owners.new.items ≡ owners.old.items ++ map (as_read words.now) (built_column_owners words.now column.0)) }
+{
+    push_array_owners(owners, words, codes_header(column))?;
+    push_array_owners(owners, words, dictionary_header(column))
+}
+
+// The pointers to an array's published chunks, and the one after them where it names a block.
+fn push_array_owners(
+    owners: &mut Vec<OwnerWord>,
+    words: &[u64],
+    header: Place,
+) -> Result<(), NoMemory>
+    requires most { length words.now ≤ 4194304 }
+    requires within { header.0 + 16 ≤ length words.now }
+    ensures { IfOk result (λ _. owners.new.items ≡ owners.old.items ++ map (as_read words.now) (array_owners words.now header.0)) }
+{
+    let count = words[header.0 as usize].min(u64::from(MAX_CHUNKS)) as u32;
+    for chunk in 0..(count + 1).min(MAX_CHUNKS) {
+        let pointer = chunk_pointer(header, chunk);
+        push_if_named(owners, words, pointer, chunk_words(chunk))?;
+    }
+    Ok(())
+}
+
+// The pointers to an object's ready segments, and the one after them where it names a block.
+fn push_object_owners(
+    owners: &mut Vec<OwnerWord>,
+    words: &[u64],
+    object: u8,
+) -> Result<(), NoMemory>
+    requires object { object < 16 }
+    requires segments { length words.now % 32768 ≡ 0 }
+    requires one_or_more { 32768 ≤ length words.now }
+    requires most { length words.now ≤ 4194304 }
+    requires rule { Keeps words.now objects_rule }
+    ensures { IfOk result (λ _. owners.new.items ≡ owners.old.items ++ map (as_read words.now) (object_owners words.now object)) }
+{
+    let mut pointer = segment_pointer(object);
+    for number in 0..ready_count(words, object) {
+        push_if_named(owners, words, pointer, ENTRY_SEGMENT_WORDS)?;
+        pointer = next_segment(words, object, number, pointer);
+    }
+    push_if_named(owners, words, pointer, ENTRY_SEGMENT_WORDS)
+}
+
+// An owner word that is one only where it isn't null.
+fn push_if_named(
+    owners: &mut Vec<OwnerWord>,
+    words: &[u64],
+    place: Place,
+    count: u32,
+) -> Result<(), NoMemory>
+    requires within { place.0 < length words.now }
+    requires some { 1 ≤ count }
+    requires most { count ≤ 32768 }
+    ensures { IfOk result (λ _. owners.new.items ≡ owners.old.items ++ map (as_read words.now) (filter (names_one words.now) (owner_of place.0 count ∷ []))) }
+{
+    if words[place.0 as usize] == 0 {
+        return Ok(());
+    }
+    push_owner(owners, words, place, count)
+}
+
+fn push_owner(
+    owners: &mut Vec<OwnerWord>,
+    words: &[u64],
+    place: Place,
+    count: u32,
+) -> Result<(), NoMemory>
+    requires within { place.0 < length words.now }
+    requires some { 1 ≤ count }
+    requires most { count ≤ 32768 }
+    ensures { IfOk result (λ _. owners.new.items ≡ owners.old.items ++ as_read words.now (owner_of place.0 count) ∷ []) }
+{
+    owners.push(OwnerWord {
+        place: place.0,
+        word: words[place.0 as usize],
+        block_words: block_words(count),
+    })?;
+    Ok(())
+}
+
+// The words of the block that so many words are given.
+fn block_words(count: u32) -> u32
+    requires some { 1 ≤ count }
+    requires most { count ≤ 32768 }
+    ensures { result ≡ words_of_block count }
+{
+    match class_for(count) {
+        Some(class) => class_words(class),
+        None => PAGE_WORDS * ((count + PAGE_WORDS - 1) / PAGE_WORDS),
+    }
+}
