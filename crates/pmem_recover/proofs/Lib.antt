@@ -9,6 +9,8 @@ pub mod LaneChanges
 pub mod Mending
 pub mod NeededStores
 pub mod PartByPart
+pub mod UndoRules
+pub mod Undoing
 pub mod Faults
 pub mod HeapChecks
 pub mod LaneChecks

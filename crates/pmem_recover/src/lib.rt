@@ -17,6 +17,7 @@ mod laws;
 mod objects;
 mod part;
 mod slot;
+mod undo;
 mod layout;
 
 pub use clear::next_clear;
@@ -27,6 +28,7 @@ pub use laws::{fault_law, lane_opening_law};
 pub use objects::{next_idle, next_last};
 pub use pm_model::NoMemory;
 pub use slot::next_slot;
+pub use undo::next_undo;
 
 #[cfg(test)]
 mod tests;

@@ -9,10 +9,10 @@ use crate::change::CHANGE_ACTIONS;
 use pm_model::{Memory, NoMemory, OBJECTS, Plan, commit_word, last_commit, object_state};
 use std::alloc::Global;
 
-// The states of a transaction object: no transaction, or an open one.
-const CLOSED: u64 = 0;
+/// The states of a transaction object: no transaction, or an open one.
+pub(crate) const CLOSED: u64 = 0;
 
-const OPEN: u64 = 1;
+pub(crate) const OPEN: u64 = 1;
 
 /// The plan by which the last commit number becomes the greatest of itself and the commit words of open objects. It has
 /// the number 0; `None` where the number is the greatest already, and from 1 on always.
