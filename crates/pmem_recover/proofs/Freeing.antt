@@ -28,11 +28,7 @@ later_of words at = change (lane_op_at 0) 2 ∷ change at 0 ∷ release words (p
 abbrev pub page_of_block : List ℕ → ℕ → Change
 page_of_block words at = change (descriptor_at (page_of (place_in (get_or words at 0)))) 0
 
-
 module _ (words : List ℕ) (at : ℕ) (is : is_block_pointer words (get_or words at 0) ≡ true) where
-
-
-
   word_is : pointer_word (place_in (get_or words at 0)) ≡ get_or words at 0
   word_is = sym (pointer_parts words (get_or words at 0) (block_pointer words (get_or words at 0) is)).0
 

@@ -51,11 +51,7 @@ fn push_own<M: Memory>(mem: &M, object: u8, filled: &mut Vec<Place>) -> Result<(
 }
 
 // Adds the places of the entries of a segment.
-fn push_segment<M: Memory>(
-    mem: &M,
-    segment: Place,
-    filled: &mut Vec<Place>,
-) -> Result<(), NoMemory>
+fn push_segment<M: Memory>(mem: &M, segment: Place, filled: &mut Vec<Place>) -> Result<(), NoMemory>
     requires { segment.0 + 256 ≤ length (M.device mem.now).cached }
     ensures places { IfOk result (λ _. places_of filled.new.items ≡ places_of filled.old.items ++ filter (is_filled (M.device mem.now).cached) (map (segment_entry_at segment.0) (below 255))) }
     ensures few { IfOk result (λ _. vec_len filled.new ≤ vec_len filled.old + 255) }

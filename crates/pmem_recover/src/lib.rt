@@ -3,6 +3,11 @@
 //! - `check_entry` tries the rules that every image keeps that a power cut can leave.
 //! - `next_lane` plans the mending of the lanes, one after the other. What a power cut leaves of such a plan is mended to
 //!   the same words (`lane_opening_law`).
+//! - `next_slot` frees the block of a table that was being created, and `next_last` raises the last commit number.
+//! - `next_undo` takes back the transactions that are open and have no commit word, `next_idle` closes those that have
+//!   one, and `next_clear` clears the entries and the commit words.
+//!
+//! Each of these calls gives the first number from one on that has something to mend, with its plan.
 #![tactic(auto)]
 
 mod change;
@@ -14,11 +19,11 @@ mod heap_rules;
 mod lane_rules;
 mod lanes;
 mod laws;
+mod layout;
 mod objects;
 mod part;
 mod slot;
 mod undo;
-mod layout;
 
 pub use clear::next_clear;
 pub use entry::check_entry;

@@ -63,11 +63,7 @@ fn plan_slot<M: Memory>(alloc: Global, mem: &M) -> Result<Plan, NoMemory>
 }
 
 /// Plans the freeing of the block that the word at a place names, through lane 0.
-pub(crate) fn plan_freeing<M: Memory>(
-    alloc: Global,
-    mem: &M,
-    at: Place,
-) -> Result<Plan, NoMemory>
+pub(crate) fn plan_freeing<M: Memory>(alloc: Global, mem: &M, at: Place) -> Result<Plan, NoMemory>
     requires in_image { at.0 < length (M.device mem.now).cached }
     requires pointer { IsTrue (is_block_pointer (M.device mem.now).cached (slice_index (M.device mem.now).cached at.0)) }
     ensures { IfOk result (λ plan. plan.left ≡ plan_of (needed_parts (M.device mem.now).cached (free_block (M.device mem.now).cached at.0))) }

@@ -6,7 +6,7 @@ use Rattle.std.proofs.lemmas.Result.{IfOk-weaker}
 use Rattle.pm_model.specs.declared.place.Place.{Place}
 use Rattle.pm_model.specs.Fixed.{state_at, commit_word_at}
 use Rattle.pm_model.specs.Places.{below}
-use Rattle.pm_model.specs.Plans.{Part, plan_of}
+use Rattle.pm_model.specs.Plans.{plan_of}
 use Rattle.pm_model.specs.Tables.{table_count}
 use Rattle.pm_model.specs.Objects.{is_open, entry_places}
 use Rattle.pm_model.specs.EntryRules.{is_entry}
@@ -17,7 +17,6 @@ use Rattle.pmem_recover.specs.Undo.{words_at}
 use Rattle.pmem_recover.proofs.Clearing.{filled-within}
 use Rattle.pmem_recover.proofs.UndoRules.{entries-each}
 use Rattle.pmem_recover.proofs.Undoing.{undo-planned, not-open, committed, raised, within-push}
-use Rattle.pmem_recover.proofs.undo.plan_undo.Given as given
 use Rattle.pmem_recover.proofs.undo.plan_undo.Goals as goal
 use Rattle.pmem_recover.proofs.undo.plan_undo.Goals.{then-load-ne-OPEN-via-then-load-ne-OPEN, then-load-ne-OPEN-via-else-load-ne-OPEN+then-load-ne0}
 

@@ -1,4 +1,4 @@
-use Rattle.std.proofs.Common.{◌≡◌, ◌+◌, ◌<◌, ◌≤◌, ◌++◌, All, get_or, length, map, max}
+use Rattle.std.proofs.Common.{◌≡◌, ◌+◌, ◌<◌, ◌++◌, All, get_or, length, map, max}
 use Rattle.std.specs.Prelude.{vec_len, vec_capacity}
 use Rattle.pm_model.specs.Places.{below}
 use Rattle.pm_model.specs.Plans.{store}

@@ -1,6 +1,6 @@
-use Rattle.std.proofs.Common.{◌≡◌, ℕ, ◌<◌, ◌≤◌, List, length, ap, arith}
+use Rattle.std.proofs.Common.{ℕ, ◌<◌, List, length, arith}
 use Rattle.pm_model.specs.Objects.{entry_table}
-use Rattle.pm_model.specs.Tables.{table_block, table_count}
+use Rattle.pm_model.specs.Tables.{table_count}
 use Rattle.pmem_recover.specs.Changes.{change}
 use Rattle.pmem_recover.proofs.Undoing.{within-push}
 use Rattle.pmem_recover.proofs.UndoRules.{tables-few, table-pointer, table-within, keeps-created, keeps-ended, entry-parts, named-block}
