@@ -10,3 +10,5 @@ pub mod PartByPart
 pub mod Parts
 pub mod Steps
 pub mod TableSlot
+pub mod UndoRules
+pub mod Undoing

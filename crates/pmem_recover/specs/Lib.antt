@@ -3,3 +3,4 @@ pub mod EntryRules
 pub mod Filled
 pub mod Lanes
 pub mod Steps
+pub mod Undo

@@ -1,0 +1,23 @@
+-- What taking back an undecided transaction reads: the rules that it relies on, and the entries as words.
+use Rattle.std.specs.Prelude.{ℕ, ◌&&◌, ◌==◌, List, map, filter, slice_index}
+use Rattle.pm_model.specs.declared.place.Place.{Place}
+use Rattle.pm_model.specs.Objects.{entry_kind, entry_table, entry_row}
+use Rattle.pm_model.specs.Checks.{Keeps}
+use Rattle.pm_model.specs.EntryRules.{table_count_rule, table_slot_rule, arrays_rule, objects_rule, entries_rule}
+use Rattle.pmem_recover.specs.Filled.{places_of}
+
+-- the rules 4, 9, 10, 14 and 15
+pub record KeepsUndoRules (words : List ℕ) : Type 0 where
+  pub table_count : Keeps words table_count_rule
+  pub table_slots : Keeps words table_slot_rule
+  pub arrays : Keeps words arrays_rule
+  pub objects : Keeps words objects_rule
+  pub entries : Keeps words entries_rule
+
+-- the words at these places
+abbrev pub words_at : List ℕ → List Place → List ℕ
+words_at words places = map (slice_index words) (places_of places)
+
+-- the rows of a table that these entries created
+abbrev pub created_among : List ℕ → ℕ → List ℕ
+created_among entries table = map entry_row (filter (λ word. (entry_kind word == 1) && (entry_table word == table)) entries)
