@@ -1,3 +1,4 @@
+pub mod Blocks
 pub mod Creating
 pub mod Filled
 pub mod Filling
@@ -5,3 +6,4 @@ pub mod Lengths
 pub mod Lists
 pub mod Names
 pub mod Planning
+pub mod Surviving

@@ -2,15 +2,12 @@
 use Rattle.std.proofs.Common.{◌≡◌, ◌≢◌, ℕ, ◌+◌, ◌<◌, ◌≤◌, true, ltb, List, [], ◌++◌, length, get_or, sym, ◌∙◌, ap, subst, arith, append-nil, append_assoc}
 use Rattle.std.specs.Prelude.{Option, Some}
 use Rattle.std.proofs.lemmas.Bool.{and_parts, ltb-true}
-use Rattle.std.proofs.lemmas.List.{length-map}
-use Rattle.std.proofs.lemmas.List.FromFn.{length-range_with_len}
 use Rattle.std.proofs.lemmas.Grind.{flat_map-append}
 use Rattle.mv_model.specs.declared.shape.Column.{Column}
 use Rattle.mv_model.specs.Shape.{is_shape, names_differ}
 use Rattle.pm_model.specs.declared.action.Action.{Action}
 use Rattle.pm_model.specs.Device.{Device, IsWhole}
 use Rattle.pm_model.specs.Fixed.{table_count_at, table_slot_at}
-use Rattle.pm_model.specs.Places.{below}
 use Rattle.pm_model.specs.Plans.{plan_of, part_actions, one_store}
 use Rattle.pm_model.specs.Records.{table_words}
 use Rattle.pm_model.specs.Tables.{table_count}
@@ -18,7 +15,7 @@ use Rattle.heap_palloc.specs.Calls.{IsAllocated}
 use Rattle.heap_palloc.specs.Choice.{choice_parts}
 use Rattle.heap_palloc.specs.Index.{HeapIndex}
 use Rattle.shown_state.specs.Mending.{fill_from}
-use Rattle.catalog.specs.Entries.{CatalogTable, CatalogState, published_table}
+use Rattle.catalog.specs.Entries.{CatalogTable, CatalogState}
 use Rattle.catalog.specs.Creation.{Creation, MayCreate, table_record, publishing_parts, creation_parts}
 use Rattle.catalog.specs.Calls.{MayPlanCreation, IsCreationPlanned}
 use Rattle.catalog.proofs.Creating.{taken_size, record_within, created_index}
@@ -43,7 +40,7 @@ shape_some columns is = ltb-true 0 (length columns) (and_parts (ltb 0 (length co
 
 module _ (d : Device) (whole : IsWhole d) (index : HeapIndex) (tables : List CatalogTable) (lane : ℕ) (may : MayPlanCreation d.cached index tables lane) where
   pub tables_count : length tables ≡ table_count d.cached
-  tables_count = ap (length {A = CatalogTable}) may.tables_of ∙ length-map (below (table_count d.cached)) (published_table d.cached) ∙ length-range_with_len 0 (table_count d.cached)
+  tables_count = may.count_of
 
   -- the slot of the new table
   module _ (count owner : ℕ) (count_is : count ≡ length tables) (few : count ≢ 32) (owner_is : owner ≡ table_slot_at count) where

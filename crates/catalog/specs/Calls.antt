@@ -14,14 +14,14 @@ use Rattle.heap_palloc.specs.Index.{HeapIndex, IsIndexOf}
 use Rattle.catalog.specs.declared.error.CreateError.{CreateError}
 use Rattle.catalog.specs.declared.error.CreateError.TheVariants.{Full, NoMemory}
 use Rattle.catalog.specs.Creation.{new_block, creation_parts, MayCreate}
-use Rattle.catalog.specs.Entries.{CatalogTable, published_tables}
+use Rattle.catalog.specs.Entries.{CatalogTable}
 
--- The heap's rules hold, the index and the catalog stand for the words, the lane is idle, there are at most 32 tables, and
--- the table slot at their count is null.
+-- The heap's rules hold, the index stands for the words, the catalog has as many tables as they have, at most 32, the lane
+-- is idle, and the table slot at the count is null.
 pub record MayPlanCreation (words : List ℕ) (index : HeapIndex) (tables : List CatalogTable) (lane : ℕ) : Type 0 where
   pub rules : KeepsHeapRules words
   pub index_of : IsIndexOf words index
-  pub tables_of : tables ≡ published_tables words
+  pub count_of : length tables ≡ table_count words
   pub lane_is : lane < 16
   pub idle : slice_index words (lane_op_at lane) ≡ 0
   pub most : table_count words ≤ 32

@@ -1,3 +1,4 @@
 pub mod Calls
 pub mod Creation
 pub mod Entries
+pub mod Shown

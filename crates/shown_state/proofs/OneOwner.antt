@@ -36,7 +36,7 @@ narrow a x b y other is =
     (λ right. ⊎_elim (λ here. absurd (other here)) (λ there. Contains-append_right a b y there) (Contains-cons x y b right))
     (Contains-append_cases a (x ∷ b) y is)
 
-Differ-remove : (a : List ℕ) (x : ℕ) (b : List ℕ) → Differ (a ++ x ∷ b) → Differ (a ++ b) × ((y : ℕ) → Contains (a ++ b) y → x ≡ y → ⊥)
+pub Differ-remove : (a : List ℕ) (x : ℕ) (b : List ℕ) → Differ (a ++ x ∷ b) → Differ (a ++ b) × ((y : ℕ) → Contains (a ++ b) y → x ≡ y → ⊥)
 Differ-remove [] x b (fresh, rest) = (rest, fresh)
 Differ-remove (z ∷ a) x b (fresh, rest) =
     let found = Differ-remove a x b rest in (
@@ -93,7 +93,7 @@ Rises-Differ : (low high : ℕ) (xs : List ℕ) → Rises low high xs → Differ
 Rises-Differ low high [] rise = tt
 Rises-Differ low high (x ∷ xs) (first, rest) = (λ y is e. let more = Rises-above (x + 1) high xs y rest is in omega arith, Rises-Differ (x + 1) high xs rest)
 
-abbrev first_of : Block → ℕ
+abbrev pub first_of : Block → ℕ
 first_of block = block.first
 
 slots_rise : (test : ℕ → Bool) (base size : ℕ) (f : ℕ → Block) → ((s : ℕ) → first_of (f s) ≡ base + s * size) → 0 < size → (s n : ℕ) → Rises (base + s * size) (base + (s + n) * size) (map first_of (map f (filter test (range_with_len s n))))
@@ -151,7 +151,7 @@ pages_rise f each (suc n) page =
     rw map-append (Rises-append (512 * page) (512 * (page + 1)) (512 * (page + suc n)) (map first_of (f page)) rest (each page)
     (Rises-upper (512 * (page + 1)) (512 * (page + 1 + n)) (512 * (page + suc n)) rest (omega arith) (pages_rise f each n (page + 1))))
 
-blocks_differ : (words : List ℕ) → Differ (map first_of (live_blocks words))
+pub blocks_differ : (words : List ℕ) → Differ (map first_of (live_blocks words))
 blocks_differ words = Rises-Differ (512 * 0) (512 * (0 + page_count words)) (map first_of (live_blocks words)) (pages_rise (blocks_of_page words) (page_rises words) (page_count words) 0)
 
 -- membership as a test

@@ -1,0 +1,26 @@
+// What the creation of a table keeps through each power cut, whatever is played beside it.
+ghost use Rattle.std.specs.Prelude.{◌≡◌, ◌⊎◌, ℕ, [], List, IsTrue, length};
+ghost use Rattle.pm_model.specs.declared.action.Action.{Action};
+ghost use Rattle.pm_model.specs.Blocks.{live_blocks};
+ghost use Rattle.pm_model.specs.Device.{Device, IsClean};
+ghost use Rattle.pm_model.specs.Plans.{Play, IsPlaying, IsPlan, IsCrashImageWithin, IsTakenBack, finished, footprint, plan_of};
+ghost use Rattle.heap_palloc.specs.Choice.{choice_block};
+ghost use Rattle.heap_palloc.specs.Shown.{GainsOne};
+ghost use Rattle.catalog.specs.Creation.{Creation, creation_parts};
+ghost use Rattle.catalog.specs.Shown.{mended, IsUncreated, IsCreated, MayCreateOn};
+
+/// A creation: its lane and the table slot at the count mended, each image has the tables and the live blocks before, or
+/// those after. After the last action it has those after.
+pub fn creation_law()
+    ensures plan { (base : List ℕ) (c : Creation) → MayCreateOn base c → IsPlan (length base) (creation_parts base c) }
+    ensures allocates { (base : List ℕ) (c : Creation) → MayCreateOn base c →
+        GainsOne (live_blocks base) (choice_block c.choice) (live_blocks (finished (creation_parts base c) base)) }
+    ensures survives { (c : Creation) (play : Play) (n : ℕ) (left : List Action) (d : Device) (image base : List ℕ) →
+        IsPlaying play n left d → IsCrashImageWithin play.own d image → IsTakenBack play image base → play.parts ≡ creation_parts base c → MayCreateOn base c →
+        (IsUncreated base c (mended c.lane image)) ⊎ (IsCreated base c (mended c.lane image)) }
+    ensures stays { (c : Creation) (play : Play) (n : ℕ) (d : Device) (image base : List ℕ) →
+        IsPlaying play n [] d → IsCrashImageWithin play.own d image → IsTakenBack play image base → play.parts ≡ creation_parts base c → MayCreateOn base c →
+        IsCreated base c (mended c.lane image) }
+    ensures settles { (base : List ℕ) (c : Creation) → MayCreateOn base c → IsCreated base c (finished (creation_parts base c) base) }
+    ensures clean { (play : Play) (n w : ℕ) (d : Device) → IsPlaying play n [] d → IsTrue (footprint (plan_of play.parts) w) → IsClean d w }
+{}
