@@ -15,11 +15,10 @@ ghost use Rattle.pmem_recover.specs.Undo.{KeepsUndoRules, words_at, created_amon
 use crate::change::Change;
 use crate::entries::filled_entries;
 use crate::lanes::read_pointer;
-use crate::objects::{CLOSED, OPEN};
 use crate::part::push_parts;
 use pm_model::{
-    Memory, NoMemory, OBJECTS, Place, Plan, TABLES, commit_word, created_header, ended_header,
-    high, last_commit, object_state, table_count, table_slot,
+    CLOSED, Memory, NoMemory, OBJECTS, OPEN, Place, Plan, TABLES, commit_word, created_header,
+    ended_header, high, last_commit, object_state, table_count, table_slot,
 };
 use seg_array::place_of;
 use std::alloc::Global;

@@ -371,7 +371,7 @@ module _ (base : List ℕ) (e : Extension) (may : MayExtend base e) (page : ℕ)
         (same_heap e.object (new_segment e) page may.number base stands now (readied e.object (ready_count base e.object) (new_segment e) now) (readied_same e.object (ready_count base e.object) (new_segment e) now))
 
     module _ (words : List ℕ) (same : SameButSegment e.object (new_segment e) now words) where
-      op_here : get_or words (lane_op_at e.object) 0 ≡ 0
+      pub op_here : get_or words (lane_op_at e.object) 0 ≡ 0
       op_here =
           let far = segment_behind e.object (new_segment e) page may.number base stands in let number = may.number in
           same.each (lane_op_at e.object) (inl (omega (arith, far, number))) (λ is. omega (arith, is, number)) ∙ at.op

@@ -1,5 +1,5 @@
 -- The extension of an object as a whole: the segment allocated or owned already, and then made ready.
-use Rattle.std.proofs.Common.{◌≡◌, ◌≢◌, ◌⊎◌, inl, inr, ⊎_elim, eqb, ℕ, ◌+◌, ◌*◌, ◌/◌, ◌%◌, ◌<◌, ◌≤◌, true, List, [], ◌∷◌, ◌++◌, length, get_or, refl, sym, ◌∙◌, ap, subst, arith}
+use Rattle.std.proofs.Common.{◌≡◌, ◌≢◌, ◌⊎◌, inl, inr, ⊎_elim, eqb, ℕ, suc, ◌+◌, ◌*◌, ◌/◌, ◌%◌, ◌<◌, ◌≤◌, true, List, [], ◌∷◌, ◌++◌, length, get_or, refl, sym, ◌∙◌, ap, subst, arith}
 use Rattle.std.specs.Prelude.{Contains}
 use Rattle.std.proofs.lemmas.Bool.{cases_lt, or_left, or_right, and_from, eq-eqb, lt-ltb, le-leb}
 use Rattle.pm_model.specs.declared.action.Action.{Action}
@@ -10,7 +10,9 @@ use Rattle.pm_model.specs.Device.{Device}
 use Rattle.pm_model.specs.Plans.{Part, EachCut, IsPlan, finished, Play, IsPlaying, IsCrashImageWithin, IsTakenBack}
 use Rattle.pm_model.specs.Blocks.{Block, live_blocks}
 use Rattle.pm_model.specs.HeapLaws.{AreApart}
-use Rattle.pm_model.specs.Objects.{ready_count, ready_segments, segment_of, pointer_after}
+use Rattle.heap_palloc.specs.Index.{HeapIndex, IsIndexOf}
+use Rattle.txn_object.specs.Calls.{MayPlanExtension}
+use Rattle.pm_model.specs.Objects.{ready_count, segment_pointer_at, ready_segments, segment_of, pointer_after}
 use Rattle.pm_model.proofs.Cuts.{store_part, finished-append, plan-append, each_cut-append, each_cut-map}
 use Rattle.pm_model.proofs.PlanLaw.{plan_survives_parts, plan_ended_parts}
 use Rattle.heap_palloc.specs.Lane.{mended_lane}
@@ -34,7 +36,7 @@ use Rattle.txn_object.proofs.Rule.{after_ok}
 use Rattle.txn_object.proofs.Frames.{pointer_to-same}
 use Rattle.txn_object.proofs.Taken.{StandsOn, taken, source_stands}
 use Rattle.txn_object.proofs.Readying.{zero_is_part, segment_in, segment_behind, same_heap, readied, readied_is, readied_same}
-use Rattle.txn_object.proofs.Extending.{AtSegment, segments_differ, choice_changes, choice_unowned, unextended, new_pointer_sound, ready_elsewhere, blocks_end, is_extended, mended_ready, readying_cuts}
+use Rattle.txn_object.proofs.Extending.{AtSegment, segments_differ, choice_changes, choice_unowned, unextended, new_pointer_sound, ready_elsewhere, blocks_end, op_here, is_extended, mended_ready, readying_cuts}
 
 -- the ready segments of an object share no word
 pub apart_from_blocks : (words : List ℕ) (object : ℕ) → object < 16 → 2048 ≤ length words → length words % 32768 ≡ 0 → HasSegments words object → HasObject words object
@@ -87,6 +89,7 @@ pub record IsShown (base : List ℕ) (e : Extension) : Type 0 where
   pub ends : IsExtended base e (finished (extension_parts base e) base)
   pub mended : mended_lane e.object (finished (extension_parts base e) base) ≡ finished (extension_parts base e) base
   pub again : HasSegments (finished (extension_parts base e) base) e.object
+  pub goes_on : (index : HeapIndex) → IsIndexOf (finished (extension_parts base e) base) index → MayPlanExtension (finished (extension_parts base e) base) index e.object
   pub allocates : get_or base (pointer_after base e.object) 0 ≡ 0 → GainsOne (live_blocks base) (segment_block (new_segment e)) (live_blocks (finished (extension_parts base e) base))
   pub owned_stays : get_or base (pointer_after base e.object) 0 ≢ 0 → live_blocks (finished (extension_parts base e) base) ≡ live_blocks base
 
@@ -109,6 +112,32 @@ module _ (base : List ℕ) (e : Extension) (may : MayExtend base e) (page : ℕ)
     end_mended : mended_lane e.object (finished (extension_parts base e) base) ≡ finished (extension_parts base e) base
     end_mended = subst (λ (words : List ℕ). mended_lane e.object words ≡ words) (sym at.ends) (mended_ready base e may page stands now at)
 
+    count : ready_count (finished (extension_parts base e) base) e.object ≡ ready_count base e.object + 1
+    count =
+        let sizes = ap (λ (l : List ℕ). length l) end_is.segments in
+        let one = length-map-range_with_len (segment_of (finished (extension_parts base e) base) e.object) 0 (ready_count (finished (extension_parts base e) base) e.object) in
+        let two = length-map-range_with_len (segment_of base e.object) 0 (ready_count base e.object) in
+        let both = length-append (ready_segments base e.object) (new_segment e ∷ []) in
+        omega (arith, sizes, one, two, both)
+
+    nth_is : (k : ℕ) → k < ready_count (finished (extension_parts base e) base) e.object → segment_of (finished (extension_parts base e) base) e.object k ≡ get_or (ready_segments base e.object ++ new_segment e ∷ []) k 0
+    nth_is k lt =
+        sym (get_or-map-range_with_len (segment_of (finished (extension_parts base e) base) e.object) 0 (ready_count (finished (extension_parts base e) base) e.object) k k 0 lt (omega arith))
+        ∙ ap (λ (l : List ℕ). get_or l k 0) end_is.segments
+
+    at_segment : Contains (live_blocks now) (segment_block (new_segment e)) → ((block : Block) → Contains (live_blocks base) block → Contains (live_blocks now) block) → (k : ℕ) → k < ready_count (finished (extension_parts base e) base) e.object → Contains (live_blocks now) (segment_block (segment_of (finished (extension_parts base e) base) e.object k))
+    at_segment new old k lt =
+        let two = length-map-range_with_len (segment_of base e.object) 0 (ready_count base e.object) in
+        ⊎_elim
+        (λ (before : k < ready_count base e.object).
+        let is = nth_is k lt ∙ get_or_append_left (ready_segments base e.object) (new_segment e ∷ []) 0 k (omega (arith, before, two)) ∙ get_or-map-range_with_len (segment_of base e.object) 0 (ready_count base e.object) k k 0 before (omega arith) in
+        subst (λ (s : ℕ). Contains (live_blocks now) (segment_block s)) (sym is) (old (segment_block (segment_of base e.object k)) (may.segments.live k before)))
+        (λ last.
+        let here : k ≡ length (ready_segments base e.object) = omega (arith, lt, count, last, two) in
+        let is = nth_is k lt ∙ ap (λ (m : ℕ). get_or (ready_segments base e.object ++ new_segment e ∷ []) m 0) here ∙ get_or-append_seam (ready_segments base e.object) (new_segment e) [] 0 in
+        subst (λ (s : ℕ). Contains (live_blocks now) (segment_block s)) (sym is) new)
+        (cases_lt k (ready_count base e.object))
+
     end_again : KeepsHeapRules now → Contains (live_blocks now) (segment_block (new_segment e)) → ((block : Block) → Contains (live_blocks base) block → Contains (live_blocks now) block) → HasSegments (finished (extension_parts base e) base) e.object
     end_again rules new old =
         let words = finished (extension_parts base e) base in
@@ -117,34 +146,28 @@ module _ (base : List ℕ) (e : Extension) (may : MayExtend base e) (page : ℕ)
           rules = subst KeepsHeapRules (sym at.ends) (rules_same now (readied e.object (ready_count base e.object) (new_segment e) now)
               (same_heap e.object (new_segment e) page may.number base stands now (readied e.object (ready_count base e.object) (new_segment e) now) (readied_same e.object (ready_count base e.object) (new_segment e) now)) rules);
           rule = end_is.keeps.rule;
-          live = λ k lt. subst (λ (blocks : List Block). Contains blocks (segment_block (segment_of (finished (extension_parts base e) base) e.object k))) (sym (blocks_end base e may page stands now at)) (at_segment k lt);
+          live = λ k lt. subst (λ (blocks : List Block). Contains blocks (segment_block (segment_of (finished (extension_parts base e) base) e.object k))) (sym (blocks_end base e may page stands now at)) (at_segment new old k lt);
         }
-      where
-        count : ready_count (finished (extension_parts base e) base) e.object ≡ ready_count base e.object + 1
-        count =
-            let sizes = ap (λ (l : List ℕ). length l) end_is.segments in
-            let one = length-map-range_with_len (segment_of (finished (extension_parts base e) base) e.object) 0 (ready_count (finished (extension_parts base e) base) e.object) in
-            let two = length-map-range_with_len (segment_of base e.object) 0 (ready_count base e.object) in
-            let both = length-append (ready_segments base e.object) (new_segment e ∷ []) in
-            omega (arith, sizes, one, two, both)
 
-        nth_is : (k : ℕ) → k < ready_count (finished (extension_parts base e) base) e.object → segment_of (finished (extension_parts base e) base) e.object k ≡ get_or (ready_segments base e.object ++ new_segment e ∷ []) k 0
-        nth_is k lt =
-            sym (get_or-map-range_with_len (segment_of (finished (extension_parts base e) base) e.object) 0 (ready_count (finished (extension_parts base e) base) e.object) k k 0 lt (omega arith))
-            ∙ ap (λ (l : List ℕ). get_or l k 0) end_is.segments
+    -- and the next call may be made
+    next_null : get_or (finished (extension_parts base e) base) (pointer_after (finished (extension_parts base e) base) e.object) 0 ≡ 0
+    next_null =
+        let words = finished (extension_parts base e) base in
+        let two = length-map-range_with_len (segment_of base e.object) 0 (ready_count base e.object) in
+        let next : ready_count (finished (extension_parts base e) base) e.object ≡ suc (ready_count base e.object) = omega (arith, count) in
+        let here : ready_count base e.object ≡ length (ready_segments base e.object) = omega (arith, two) in
+        let last : segment_of (finished (extension_parts base e) base) e.object (ready_count base e.object) ≡ new_segment e =
+        nth_is (ready_count base e.object) (omega (arith, next)) ∙ ap (λ (m : ℕ). get_or (ready_segments base e.object ++ new_segment e ∷ []) m 0) here ∙ get_or-append_seam (ready_segments base e.object) (new_segment e) [] 0 in
+        ap (λ (m : ℕ). get_or (finished (extension_parts base e) base) (segment_pointer_at (finished (extension_parts base e) base) e.object m) 0) next
+        ∙ ap (λ (w : ℕ). get_or (finished (extension_parts base e) base) w 0) last
+        ∙ end_is.new_words (new_segment e) (omega arith) (omega arith)
 
-        at_segment : (k : ℕ) → k < ready_count (finished (extension_parts base e) base) e.object → Contains (live_blocks now) (segment_block (segment_of (finished (extension_parts base e) base) e.object k))
-        at_segment k lt =
-            let two = length-map-range_with_len (segment_of base e.object) 0 (ready_count base e.object) in
-            ⊎_elim
-            (λ (before : k < ready_count base e.object).
-            let is = nth_is k lt ∙ get_or_append_left (ready_segments base e.object) (new_segment e ∷ []) 0 k (omega (arith, before, two)) ∙ get_or-map-range_with_len (segment_of base e.object) 0 (ready_count base e.object) k k 0 before (omega arith) in
-            subst (λ (s : ℕ). Contains (live_blocks now) (segment_block s)) (sym is) (old (segment_block (segment_of base e.object k)) (may.segments.live k before)))
-            (λ last.
-            let here : k ≡ length (ready_segments base e.object) = omega (arith, lt, count, last, two) in
-            let is = nth_is k lt ∙ ap (λ (m : ℕ). get_or (ready_segments base e.object ++ new_segment e ∷ []) m 0) here ∙ get_or-append_seam (ready_segments base e.object) (new_segment e) [] 0 in
-            subst (λ (s : ℕ). Contains (live_blocks now) (segment_block s)) (sym is) new)
-            (cases_lt k (ready_count base e.object))
+    end_idle : get_or (finished (extension_parts base e) base) (lane_op_at e.object) 0 ≡ 0
+    end_idle = ap (λ (l : List ℕ). get_or l (lane_op_at e.object) 0) at.ends
+        ∙ op_here base e may page stands now at (readied e.object (ready_count base e.object) (new_segment e) now) (readied_same e.object (ready_count base e.object) (new_segment e) now)
+
+    end_goes_on : HasSegments (finished (extension_parts base e) base) e.object → (index : HeapIndex) → IsIndexOf (finished (extension_parts base e) base) index → MayPlanExtension (finished (extension_parts base e) base) index e.object
+    end_goes_on again index is = record { segments = again; index_of = is; idle = end_idle; owned = λ lt some. absurd (some next_null) }
 
 -- ── the object owns the segment ──
 
@@ -160,12 +183,15 @@ owned_shown base object segment may =
       kept = λ w away. refl;
       ends = readied_is object (ready_count base object) segment base;
     } in
+    let again : HasSegments (finished (extension_parts base (record { object = object; source = owned segment })) base) object =
+    end_again base (record { object = object; source = owned segment }) may page stands base at may.segments.rules may.source.1 (λ block within. within) in
     record {
       plan = readying_plan base (record { object = object; source = owned segment }) may page stands;
       cuts = readying_cuts base (record { object = object; source = owned segment }) may page stands base at;
       ends = end_is base (record { object = object; source = owned segment }) may page stands base at;
       mended = end_mended base (record { object = object; source = owned segment }) may page stands base at;
-      again = end_again base (record { object = object; source = owned segment }) may page stands base at may.segments.rules may.source.1 (λ block within. within);
+      again = again;
+      goes_on = end_goes_on base (record { object = object; source = owned segment }) may page stands base at again;
       allocates = λ none. absurd (pointer-some segment (sym may.source.0 ∙ none));
       owned_stays = λ some. blocks_end base (record { object = object; source = owned segment }) may page stands base at;
     }
@@ -215,6 +241,11 @@ module _ (base : List ℕ) (object : ℕ) (choice : Choice) (may : MayExtend bas
   gains : GainsOne (live_blocks base) (segment_block (choice_block choice).first) (live_blocks (finished (choice_parts base choice) base))
   gains = subst (λ (block : Block). GainsOne (live_blocks base) block (live_blocks (finished (choice_parts base choice) base))) (block_is choice may.source.2) (choice_gains base choice may.source.0)
 
+  again_here : HasSegments (finished (extension_parts base (record { object = object; source = allocated choice })) base) object
+  again_here = end_again base (record { object = object; source = allocated choice }) may page stands (finished (choice_parts base choice) base) at (choice_rules base choice may.segments.rules may.source.0)
+        (gained-new (live_blocks base) (segment_block (choice_block choice).first) (live_blocks (finished (choice_parts base choice) base)) gains)
+        (λ block within. gained-old (live_blocks base) (segment_block (choice_block choice).first) block (live_blocks (finished (choice_parts base choice) base)) gains within)
+
   pub allocated_shown : IsShown base (record { object = object; source = allocated choice })
   allocated_shown = record {
     plan = plan-append (length base) (choice_parts base choice) (readying_parts object (ready_count base object) (choice_block choice).first) (choice_plan base choice may.source.0)
@@ -224,9 +255,8 @@ module _ (base : List ℕ) (object : ℕ) (choice : Choice) (may : MayExtend bas
         (readying_cuts base (record { object = object; source = allocated choice }) may page stands (finished (choice_parts base choice) base) at);
     ends = end_is base (record { object = object; source = allocated choice }) may page stands (finished (choice_parts base choice) base) at;
     mended = end_mended base (record { object = object; source = allocated choice }) may page stands (finished (choice_parts base choice) base) at;
-    again = end_again base (record { object = object; source = allocated choice }) may page stands (finished (choice_parts base choice) base) at (choice_rules base choice may.segments.rules may.source.0)
-        (gained-new (live_blocks base) (segment_block (choice_block choice).first) (live_blocks (finished (choice_parts base choice) base)) gains)
-        (λ block within. gained-old (live_blocks base) (segment_block (choice_block choice).first) block (live_blocks (finished (choice_parts base choice) base)) gains within);
+    again = again_here;
+    goes_on = end_goes_on base (record { object = object; source = allocated choice }) may page stands (finished (choice_parts base choice) base) at again_here;
     allocates = λ none. subst (λ (blocks : List Block). GainsOne (live_blocks base) (segment_block (choice_block choice).first) blocks)
         (sym (blocks_end base (record { object = object; source = allocated choice }) may page stands (finished (choice_parts base choice) base) at)) gains;
     owned_stays = λ some. absurd (some (choice_unowned base object (pointer_after base object) choice may.source.0 may.source.1));

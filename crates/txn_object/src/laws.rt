@@ -11,6 +11,8 @@ ghost use Rattle.heap_palloc.specs.Shown.{GainsOne};
 ghost use Rattle.txn_object.specs.declared.entry.Entry.{Entry};
 ghost use Rattle.txn_object.specs.Entries.{entry_word, entry_of};
 ghost use Rattle.txn_object.specs.Object.{nth_place, begin_parts, entry_part, NoEntryFollowsZero};
+ghost use Rattle.heap_palloc.specs.Index.{HeapIndex, IsIndexOf};
+ghost use Rattle.txn_object.specs.Calls.{MayPlanExtension};
 ghost use Rattle.txn_object.specs.Extension.{Extension, new_segment, extension_parts, segment_block, HasSegments, MayExtend};
 ghost use Rattle.txn_object.specs.Shown.{Transaction, Shows, HasObject, MayEnter, IsCut, IsUnextended, IsExtended};
 
@@ -79,7 +81,9 @@ pub fn extension_law()
     ensures settles { (base : List ℕ) (e : Extension) → MayExtend base e → IsExtended base e (finished (extension_parts base e) base) }
     ensures clean { (play : Play) (n w : ℕ) (d : Device) → IsPlaying play n [] d → IsTrue (footprint (plan_of play.parts) w) → IsClean d w }
 
-    // The ready segments go on to be blocks of the heap, which share no word.
+    // The ready segments go on to be blocks of the heap, which share no word, and the next extension may be planned.
     ensures again { (base : List ℕ) (e : Extension) → MayExtend base e → HasSegments (finished (extension_parts base e) base) e.object }
+    ensures goes_on { (base : List ℕ) (e : Extension) (index : HeapIndex) → MayExtend base e → IsIndexOf (finished (extension_parts base e) base) index →
+        MayPlanExtension (finished (extension_parts base e) base) index e.object }
     ensures object { (words : List ℕ) (object : ℕ) → object < 16 → 2048 ≤ length words → length words % 32768 ≡ 0 → HasSegments words object → HasObject words object }
 {}

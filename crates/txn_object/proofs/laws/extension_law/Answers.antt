@@ -12,5 +12,6 @@ returns c = record {
   settles = λ base e may. (extension_shown base e may).ends;
   clean = λ play n w d playing hit. ended_clean play n d playing w hit;
   again = λ base e may. (extension_shown base e may).again;
+  goes_on = λ base e index may is. (extension_shown base e may).goes_on index is;
   object = apart_from_blocks;
 }
