@@ -5,8 +5,10 @@ use Rattle.pm_model.specs.HeapRules.{reserved_rule, descriptor_rule, bitmap_rule
 use Rattle.pm_model.specs.EntryRules.{magic_rule, version_rule, last_rule, table_count_rule, table_slot_rule, arrays_rule, name_rule, objects_rule, entries_rule}
 use Rattle.pm_model.specs.SoundRules.{idle_rule, closed_rule, given_back_rule, distinct_name_rule}
 use Rattle.image_rules.specs.Parts.{next_slot_rule}
+use Rattle.image_rules.specs.BuiltOwners.{built_owner_rule, built_single_owner_rule, built_owned_rule}
 
--- Of rule 17 the part on the table slot at the table count stands.
+-- Of rule 17 the part on the table slot at the table count stands, and of the rules 19 to 21 the owner words of tables, arrays
+-- and transaction objects.
 abbrev pub sound_rules : List Numbered
 sound_rules =
     numbered 1 magic_rule
@@ -25,6 +27,9 @@ sound_rules =
     ∷ numbered 16 idle_rule
     ∷ numbered 17 next_slot_rule
     ∷ numbered 18 closed_rule
+    ∷ numbered 19 built_owner_rule
+    ∷ numbered 20 built_single_owner_rule
+    ∷ numbered 21 built_owned_rule
     ∷ numbered 29 given_back_rule
     ∷ numbered 30 distinct_name_rule
     ∷ []

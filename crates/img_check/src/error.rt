@@ -1,3 +1,7 @@
+ghost use Rattle.std.specs.Prelude.{◌≡◌};
+ghost use Rattle.img_check.specs.declared.error.CheckError.TheVariants.{NoMemory as OutOfMemory};
+
+use pm_model::NoMemory;
 use thiserror::Error;
 
 /// Why an image isn't found sound.
@@ -9,4 +13,12 @@ pub enum CheckError {
     /// A request for memory was refused.
     #[error("out of memory")]
     NoMemory,
+}
+
+impl From<NoMemory> for CheckError {
+    ghost from_gives = { λ _ error. error ≡ OutOfMemory };
+
+    fn from(_refused: NoMemory) -> CheckError {
+        CheckError::NoMemory
+    }
 }

@@ -1,4 +1,4 @@
-use Rattle.pm_model.specs.EntryRules.{table_slot_rule, arrays_rule, objects_rule}
+use Rattle.pm_model.specs.EntryRules.{table_count_rule, table_slot_rule, arrays_rule, objects_rule}
 use Rattle.img_check.proofs.Kept.{kept_rule}
 use Rattle.img_check.proofs.checking.check.Goals as goal
 
@@ -22,3 +22,30 @@ closed_fault-requires-clause-objects c = kept_rule c.args.words.now objects_rule
 
 pub distinct_name_fault-requires-clause-slots : goal.distinct_name_fault-requires-clause-slots
 distinct_name_fault-requires-clause-slots c = kept_rule c.args.words.now table_slot_rule c.table_slot_fault.result c.table_slot_fault.ensures c.in_ok-refuse-9.ensures.kept
+
+pub owner_fault-requires-clause-tables : goal.owner_fault-requires-clause-tables
+owner_fault-requires-clause-tables c = kept_rule c.args.words.now table_count_rule c.table_count_fault.result c.table_count_fault.ensures c.in_ok-refuse-4.ensures.kept
+
+pub owner_fault-requires-clause-slots : goal.owner_fault-requires-clause-slots
+owner_fault-requires-clause-slots c = kept_rule c.args.words.now table_slot_rule c.table_slot_fault.result c.table_slot_fault.ensures c.in_ok-refuse-9.ensures.kept
+
+pub owner_fault-requires-clause-objects : goal.owner_fault-requires-clause-objects
+owner_fault-requires-clause-objects c = kept_rule c.args.words.now objects_rule c.objects_fault.result c.objects_fault.ensures c.in_ok-refuse-12.ensures.kept
+
+pub single_owner_fault-requires-clause-tables : goal.single_owner_fault-requires-clause-tables
+single_owner_fault-requires-clause-tables c = kept_rule c.args.words.now table_count_rule c.table_count_fault.result c.table_count_fault.ensures c.in_ok-refuse-4.ensures.kept
+
+pub single_owner_fault-requires-clause-slots : goal.single_owner_fault-requires-clause-slots
+single_owner_fault-requires-clause-slots c = kept_rule c.args.words.now table_slot_rule c.table_slot_fault.result c.table_slot_fault.ensures c.in_ok-refuse-9.ensures.kept
+
+pub single_owner_fault-requires-clause-objects : goal.single_owner_fault-requires-clause-objects
+single_owner_fault-requires-clause-objects c = kept_rule c.args.words.now objects_rule c.objects_fault.result c.objects_fault.ensures c.in_ok-refuse-12.ensures.kept
+
+pub owned_fault-requires-clause-tables : goal.owned_fault-requires-clause-tables
+owned_fault-requires-clause-tables c = kept_rule c.args.words.now table_count_rule c.table_count_fault.result c.table_count_fault.ensures c.in_ok-refuse-4.ensures.kept
+
+pub owned_fault-requires-clause-slots : goal.owned_fault-requires-clause-slots
+owned_fault-requires-clause-slots c = kept_rule c.args.words.now table_slot_rule c.table_slot_fault.result c.table_slot_fault.ensures c.in_ok-refuse-9.ensures.kept
+
+pub owned_fault-requires-clause-objects : goal.owned_fault-requires-clause-objects
+owned_fault-requires-clause-objects c = kept_rule c.args.words.now objects_rule c.objects_fault.result c.objects_fault.ensures c.in_ok-refuse-12.ensures.kept
