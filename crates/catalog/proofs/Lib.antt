@@ -7,3 +7,4 @@ pub mod Lists
 pub mod Names
 pub mod Planning
 pub mod Surviving
+pub mod Tested

@@ -13,3 +13,6 @@ pub use laws::creation_law;
 pub use pm_model::NoMemory;
 pub use reading::rebuild;
 pub use tables::Catalog;
+
+#[cfg(test)]
+mod tests;

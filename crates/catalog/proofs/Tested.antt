@@ -1,0 +1,67 @@
+-- What the tests carry from one creation to the next.
+use Rattle.std.proofs.Common.{◌≡◌, ℕ, ◌+◌, ◌<◌, ◌≤◌, List, length, get_or, refl, sym, ◌∙◌, ap, subst, arith}
+use Rattle.std.specs.Prelude.{Some, IsSome}
+use Rattle.mv_model.specs.declared.shape.Column.{Column}
+use Rattle.pm_model.specs.declared.action.Action.{Action}
+use Rattle.pm_model.specs.Device.{Device, IsClean, IsWhole}
+use Rattle.pm_model.specs.Fresh.{fresh_words}
+use Rattle.pm_model.specs.Plans.{Part, IsPlan, finished, plan_of}
+use Rattle.pm_model.specs.Tables.{table_count}
+use Rattle.pm_model.proofs.FreshImage.{get_or-fresh_words}
+use Rattle.heap_palloc.specs.Calls.{IsSettled, KeepsHeapRules}
+use Rattle.heap_palloc.specs.Index.{HeapIndex, IsIndexOf}
+use Rattle.heap_palloc.proofs.LiveBlocks.{SameHeap, inside_from, is_inside-same}
+use Rattle.heap_palloc.proofs.RulesKept.{rules_from, rules_at, kept_same}
+use Rattle.catalog.specs.Entries.{CatalogTable, CatalogState, ShowsTables}
+use Rattle.catalog.specs.Creation.{Creation, creation_parts}
+use Rattle.catalog.specs.Calls.{MayPlanCreation, IsCreationPlanned}
+use Rattle.catalog.proofs.Creating.{taken_rules, same_heap, published_same, ends_published, creation_plan}
+
+pub fresh_shows : (segments : ℕ) → 0 < segments → ShowsTables (fresh_words segments)
+fresh_shows segments some =
+    let none : table_count (fresh_words segments) ≡ 0 = get_or-fresh_words segments 515 (omega (arith, some)) in
+    record { most = omega (arith, none); each = λ table lt. absurd (omega (arith, lt, none)) }
+
+-- the heap's rules look at its words alone
+rules_same : (old new : List ℕ) → SameHeap old new → KeepsHeapRules old → KeepsHeapRules new
+rules_same old new same rules =
+    let inside = inside_from old new (λ page. (same.pages page).descriptor) in
+    rules_from new (λ page lt. kept_same old new page (is_inside-same old new inside page) (same.pages page).descriptor (same.pages page).bitmap (rules_at old rules page (omega (arith, lt, same.size))))
+
+module _ (d : Device) (whole : IsWhole d) (index : HeapIndex) (settled : IsSettled d index) where
+  pub tested_may : (tables : List CatalogTable) (count : ℕ) → count ≡ length tables → count ≤ 32 → get_or d.cached 576 0 ≡ 0 → get_or d.cached 515 0 ≡ count → (count < 32 → get_or d.cached (520 + count) 0 ≡ 0) → MayPlanCreation d.cached index tables 0
+  tested_may tables count counted most idle stored slot = record {
+    rules = settled.rules;
+    index_of = settled.index_of;
+    count_of = sym counted ∙ sym stored;
+    lane_is = omega arith;
+    idle = idle;
+    most = omega (arith, stored, most);
+    slot = λ lt. ap (λ (n : ℕ). get_or d.cached (520 + n) 0) stored ∙ slot (omega (arith, lt, stored));
+  }
+
+  module _ (new : HeapIndex) (name : List ℕ) (columns : List Column) (first : ℕ) (left : List Action) (planned : IsCreationPlanned d.cached index new 0 name columns first left) where
+    abbrev creation : Creation
+    creation = record { lane = 0; choice = planned.choice; name = name; columns = columns }
+
+    pub tested_parts : (parts : List Part) × (left ≡ plan_of parts) × IsPlan (length d.cached) parts
+    tested_parts = (
+      creation_parts d.cached (record { lane = 0; choice = planned.choice; name = name; columns = columns }),
+      planned.plan_is,
+      creation_plan d.cached whole.segments whole.one_or_more settled.rules (record { lane = 0; choice = planned.choice; name = name; columns = columns }) planned.may,
+    )
+
+    pub tested_settled : (e : Device) → ((parts : List Part) → left ≡ plan_of parts → IsPlan (length d.cached) parts → e.cached ≡ finished parts d.cached) → ((w : ℕ) → IsClean e w) → IsSettled e new
+    tested_settled e words clean =
+        let c : Creation = record { lane = 0; choice = planned.choice; name = name; columns = columns } in
+        let is : e.cached ≡ finished (creation_parts d.cached c) d.cached = words (creation_parts d.cached c) planned.plan_is (creation_plan d.cached whole.segments whole.one_or_more settled.rules c planned.may) in
+        record {
+          rules = subst KeepsHeapRules (sym (is ∙ ends_published d.cached whole.segments whole.one_or_more settled.rules c planned.may))
+              (rules_same _ _ (same_heap d.cached whole.segments whole.one_or_more settled.rules c planned.may _ (published_same d.cached whole.segments whole.one_or_more settled.rules c planned.may)) (taken_rules d.cached whole.segments whole.one_or_more settled.rules c planned.may));
+          index_of = subst (λ (xs : List ℕ). IsIndexOf xs new) (sym is) planned.index_of;
+          clean = clean;
+        }
+
+-- the catalog has a table to publish
+pub planned_some : (state : CatalogState) (tables : List CatalogTable) (table : CatalogTable) → state ≡ record { tables = tables; planned = Some table } → IsSome state.planned
+planned_some state tables table is = subst (λ (s : CatalogState). IsSome s.planned) (sym is) refl
