@@ -9,5 +9,6 @@ pub mod Readying
 pub mod Rule
 pub mod Runs
 pub mod Taken
+pub mod TestObject
 pub mod Walk
 pub mod Whole

@@ -243,8 +243,8 @@ module _ (base : List ℕ) (object : ℕ) (choice : Choice) (may : MayExtend bas
 
   again_here : HasSegments (finished (extension_parts base (record { object = object; source = allocated choice })) base) object
   again_here = end_again base (record { object = object; source = allocated choice }) may page stands (finished (choice_parts base choice) base) at (choice_rules base choice may.segments.rules may.source.0)
-        (gained-new (live_blocks base) (segment_block (choice_block choice).first) (live_blocks (finished (choice_parts base choice) base)) gains)
-        (λ block within. gained-old (live_blocks base) (segment_block (choice_block choice).first) block (live_blocks (finished (choice_parts base choice) base)) gains within)
+      (gained-new (live_blocks base) (segment_block (choice_block choice).first) (live_blocks (finished (choice_parts base choice) base)) gains)
+      (λ block within. gained-old (live_blocks base) (segment_block (choice_block choice).first) block (live_blocks (finished (choice_parts base choice) base)) gains within)
 
   pub allocated_shown : IsShown base (record { object = object; source = allocated choice })
   allocated_shown = record {
