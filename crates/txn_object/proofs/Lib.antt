@@ -6,6 +6,7 @@ pub mod Lines
 pub mod Places
 pub mod Planning
 pub mod Readying
+pub mod Retire
 pub mod Rule
 pub mod Runs
 pub mod Taken
