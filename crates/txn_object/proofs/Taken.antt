@@ -124,7 +124,7 @@ source_stands words object rules (allocated choice) may = of_choice choice may.0
 -- ── how many actions its plan has ──
 
 -- a part has no more flushes than stores, and one fence
-part_length : (part : Part) → length (part_actions part) ≤ 2 * length part + 1
+pub part_length : (part : Part) → length (part_actions part) ≤ 2 * length part + 1
 part_length part = let all = length-part_actions part in let most = length-lines_of part in omega (arith, all, most)
 
 abbrev logged_parts : Allocation → List Part

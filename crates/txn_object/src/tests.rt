@@ -136,6 +136,7 @@ fn an_object_is_filled_with_segments(rt: HostRuntime) -> Result<(), Fail> {
 fn plans_have_their_actions(rt: HostRuntime) -> Result<(), Fail> {
     let (memory, _) = formatted(rt.alloc())?;
     assert_eq!(rt; plan_begin(rt.alloc(), 16)?.len(), 3);
+    assert_eq!(rt; retire_room(8_220, true), 16_446);
     let mut plan = Plan::with_room(rt.alloc(), 3)?;
     push_retire(&mut plan, &memory, 16, 0, false);
     assert_eq!(rt; plan.len(), 3);
