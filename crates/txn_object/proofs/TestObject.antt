@@ -1,24 +1,23 @@
 -- What the tests rest on: a formatted image's first object may be extended, and goes on so.
-use Rattle.std.proofs.Common.{◌≡◌, ◌≢◌, ⊎_elim, ℕ, zero, suc, ◌+◌, ◌-◌, ◌*◌, ◌/◌, ◌%◌, ◌^◌, ◌<◌, ◌≤◌, min, true, false, ◌||◌, eqb, leb, ltb, List, [], ◌∷◌, ◌++◌, length, map, get_or, refl, sym, ◌∙◌, ap, subst, arith}
-use Rattle.std.proofs.lemmas.Bool.{cases_eq, cond-false, both_ways, ne_eqb, eq-eqb, or_from, or_left, le-leb, le-ltb}
+use Rattle.std.proofs.Common.{◌≡◌, ⊎_elim, ℕ, zero, suc, ◌+◌, ◌-◌, ◌%◌, ◌^◌, ◌<◌, ◌≤◌, min, ◌||◌, eqb, ltb, List, [], ◌∷◌, length, get_or, refl, sym, ◌∙◌, ap, subst, arith}
+use Rattle.std.proofs.lemmas.Bool.{cases_eq, cond-false, ne_eqb, eq-eqb, or_from, or_left, le-leb, le-ltb}
 use Rattle.std.proofs.lemmas.List.{get_or-map, length-map}
 use Rattle.pm_model.specs.declared.action.Action.{Action}
 use Rattle.pm_model.specs.Fixed.{state_at, commit_word_at, ready_at, last_at, first_segment_at, lane_op_at}
 use Rattle.pm_model.specs.Places.{is_pointer_to}
 use Rattle.pm_model.specs.Device.{Device, IsClean}
 use Rattle.pm_model.specs.Plans.{Part, IsPlan, plan_of, finished, at_rest}
-use Rattle.pm_model.specs.Fresh.{fresh_word, fresh_words}
+use Rattle.pm_model.specs.Fresh.{fresh_words}
 use Rattle.pm_model.specs.Checks.{Keeps}
 use Rattle.pm_model.specs.Objects.{commit_word, ready_count, segment_pointer_at, pointer_after, entry_places, entries}
 use Rattle.pm_model.specs.EntryRules.{object_rule}
-use Rattle.pm_model.proofs.FreshImage.{length-fresh_words, get_or-fresh_words}
+use Rattle.pm_model.proofs.FreshImage.{get_or-fresh_words}
 use Rattle.heap_palloc.specs.Index.{HeapIndex, IsIndexOf}
 use Rattle.heap_palloc.proofs.RulesKept.{fresh_rules}
 use Rattle.txn_object.specs.Object.{NoEntryFollowsZero}
-use Rattle.txn_object.specs.Extension.{Extension, extension_parts}
+use Rattle.txn_object.specs.Extension.{extension_parts}
 use Rattle.txn_object.specs.Calls.{MayPlanExtension, IsExtensionPlanned}
 use Rattle.txn_object.specs.TestObject.{IsExtendable}
-use Rattle.txn_object.proofs.Places.{length-entry_places}
 use Rattle.txn_object.proofs.Rule.{rule_from}
 use Rattle.txn_object.proofs.Runs.{set_words, set-yes, set-no}
 use Rattle.txn_object.proofs.Walk.{words_at}
