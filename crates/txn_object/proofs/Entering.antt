@@ -1,11 +1,11 @@
 -- A begin and an entry: what the object shows after the one store that each of them is.
-use Rattle.std.proofs.Common.{◌≡◌, ◌≢◌, ◌⊎◌, inl, inr, ⊎_elim, ℕ, zero, suc, ◌+◌, ◌-◌, ◌/◌, ◌%◌, ◌^◌, ◌<◌, ◌≤◌, Bool, true, not, cond, eqb, List, [], ◌∷◌, ◌++◌, length, map, get_or, set, refl, sym, ◌∙◌, ap, subst, arith}
+use Rattle.std.proofs.Common.{◌≡◌, ◌≢◌, ◌⊎◌, inl, inr, ⊎_elim, ℕ, zero, suc, ◌+◌, ◌/◌, ◌%◌, ◌^◌, ◌<◌, ◌≤◌, true, cond, eqb, List, [], ◌∷◌, ◌++◌, length, map, get_or, set, refl, sym, ◌∙◌, ap, subst, arith}
 use Rattle.std.proofs.lemmas.List.{get_or-set_same, get_or-set_other, length-set, length-map, get_or-map, map-append}
 use Rattle.std.proofs.lemmas.Bool.{cases_eq, cond-true, cond-false, eq-eqb, ne_eqb}
 use Rattle.pm_model.specs.declared.action.Action.{Action}
 use Rattle.pm_model.specs.Device.{Device, IsClean}
 use Rattle.pm_model.specs.Fixed.{state_at, commit_word_at, entry_at, ready_at, last_at}
-use Rattle.pm_model.specs.Plans.{Play, one_store, plan_of, footprint, finished, EachCut, words_after}
+use Rattle.pm_model.specs.Plans.{Play, one_store, plan_of, footprint, finished, EachCut}
 use Rattle.pm_model.specs.Objects.{ready_count, segment_pointer_at, entry_places}
 use Rattle.pm_model.proofs.Cuts.{one_store-cut}
 use Rattle.pm_model.proofs.PlanLaw.{plan_survives_cuts, plan_ended_image, plan_ends}
@@ -14,7 +14,7 @@ use Rattle.txn_object.specs.declared.entry.Entry.{Entry}
 use Rattle.txn_object.specs.declared.entry.EntryKind.{EntryKind}
 use Rattle.txn_object.specs.declared.entry.EntryKind.TheVariants.{Created, Ended}
 use Rattle.txn_object.specs.Entries.{kind_number, entry_word, entry_of}
-use Rattle.txn_object.specs.Object.{begin_parts, entry_part, nth_place, NoEntryFollowsZero}
+use Rattle.txn_object.specs.Object.{NoEntryFollowsZero}
 use Rattle.txn_object.specs.Shown.{Transaction, Shows, HasObject, MayEnter, IsCut}
 use Rattle.txn_object.proofs.Runs.{set_words, set-no, set-yes}
 use Rattle.txn_object.proofs.Walk.{words_at}

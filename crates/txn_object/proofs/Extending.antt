@@ -1,43 +1,38 @@
 -- The extension of an object, part by part.
-use Rattle.std.proofs.Common.{◌≡◌, ◌≢◌, ◌⊎◌, inl, inr, ⊎_elim, ℕ, zero, suc, ◌+◌, ◌-◌, ◌*◌, ◌/◌, ◌%◌, ◌^◌, ◌<◌, ◌≤◌, min, Bool, true, false, not, ◌&&◌, ◌||◌, eqb, leb, ltb, List, [], ◌∷◌, ◌++◌, length, map, get_or, set, refl, sym, ◌∙◌, ap, subst, append-nil, arith}
-use Rattle.std.specs.Prelude.{Contains}
-use Rattle.std.specs.List.{range_with_len, list_any}
+use Rattle.std.proofs.Common.{◌≡◌, ◌≢◌, ◌⊎◌, inl, inr, ⊎_elim, ℕ, zero, suc, ◌+◌, ◌-◌, ◌*◌, ◌%◌, ◌^◌, ◌<◌, ◌≤◌, min, Bool, true, false, not, ◌&&◌, ◌||◌, eqb, leb, ltb, List, [], ◌∷◌, ◌++◌, length, map, get_or, set, refl, sym, ◌∙◌, ap, subst, append-nil, arith}
+use Rattle.std.specs.List.{range_with_len}
 use Rattle.std.proofs.lemmas.Bool.{cases_eq, cases_lt, both_ways, not-true, and_parts, and_from, or_right, eq-eqb, ne_eqb, lt-ltb, le-leb}
-use Rattle.std.proofs.lemmas.List.{get_or-set_same, get_or-set_other, length-set, map-append}
-use Rattle.std.proofs.lemmas.List.Elements.{Contains-append_right, filter-append}
+use Rattle.std.proofs.lemmas.List.{map-append}
+use Rattle.std.proofs.lemmas.List.Elements.{filter-append}
 use Rattle.std.proofs.lemmas.List.Folds.{list_any_at}
 use Rattle.std.proofs.lemmas.List.FromFn.{length-map-range_with_len, get_or-map-range_with_len, map-range_with_len_more}
-use Rattle.pm_model.specs.Fixed.{state_at, commit_word_at, ready_at, last_at, entry_at, first_segment_at, lane_op_at, descriptor_at}
+use Rattle.pm_model.specs.Fixed.{state_at, commit_word_at, ready_at, last_at, first_segment_at, lane_op_at}
 use Rattle.pm_model.specs.Pointer.{pointer_word}
-use Rattle.pm_model.specs.Places.{below, page_at, page_count, place_in, is_pointer_to, is_null_or_pointer_to}
+use Rattle.pm_model.specs.Places.{below, place_in, is_pointer_to, is_null_or_pointer_to}
 use Rattle.pm_model.specs.Device.{IsBetween}
-use Rattle.pm_model.specs.Plans.{Part, words_after, EachCut, finished, IsPlan}
-use Rattle.pm_model.specs.Blocks.{Block, live_blocks}
+use Rattle.pm_model.specs.Plans.{words_after, EachCut, finished}
+use Rattle.pm_model.specs.Blocks.{live_blocks}
 use Rattle.pm_model.specs.Checks.{Keeps}
 use Rattle.pm_model.specs.Objects.{commit_word, ready_count, segment_pointer_at, segment_of, pointer_after, ready_segments, entry_places, entries}
 use Rattle.pm_model.specs.EntryRules.{is_among, is_segment_pointer, object_rule}
 use Rattle.pm_model.proofs.Alone.{length-words_after}
-use Rattle.pm_model.proofs.PlanLaw.{words_after-kept}
-use Rattle.pm_model.proofs.Cuts.{between-kept, between-end, cut-one_store, store_part, finished-append, plan-append, each_cut-append, each_cut-map}
-use Rattle.pm_model.proofs.Members.{Contains-here}
+use Rattle.pm_model.proofs.Cuts.{between-kept, between-end, cut-one_store}
 use Rattle.heap_palloc.specs.Lane.{mended_lane}
-use Rattle.heap_palloc.specs.Shown.{GainsOne}
-use Rattle.heap_palloc.specs.Law.{IsElsewhere, Shows, ChangesShown, IsHeapPage}
+use Rattle.heap_palloc.specs.Law.{ChangesShown, IsHeapPage}
 use Rattle.heap_palloc.specs.Choice.{Choice, in_page, on_new_page, in_run, choice_parts, choice_block, choice_page, choice_pages, IsThrough, MayMake}
 use Rattle.heap_palloc.proofs.Stages.{place_in-pointer, mended-idle}
-use Rattle.heap_palloc.proofs.Changes.{change_settles}
-use Rattle.heap_palloc.proofs.Choices.{choice_plan, choice_allocates}
+use Rattle.heap_palloc.proofs.Choices.{choice_allocates}
 use Rattle.heap_palloc.proofs.LiveBlocks.{live_blocks-same}
-use Rattle.txn_object.specs.Extension.{Source, owned, allocated, Extension, new_segment, source_parts, zero_part, readying_parts, extension_parts, segment_block, HasSegments, MayExtend, MayTake}
-use Rattle.txn_object.specs.Shown.{IsElsewhereOf, IsOutside, KeepsEntries, HasSegment, HasNoSegment, IsUnextended, IsExtended}
+use Rattle.txn_object.specs.Extension.{Source, owned, allocated, Extension, new_segment, zero_part, readying_parts, extension_parts, MayExtend, MayTake}
+use Rattle.txn_object.specs.Shown.{IsElsewhereOf, IsOutside, HasSegment, HasNoSegment, IsUnextended, IsExtended}
 use Rattle.txn_object.proofs.Places.{places_up_to, all_places, places_next}
-use Rattle.txn_object.proofs.Rule.{at_most_32, state_ok, commit_ok, pointer_rule, after_ok, rule_from}
+use Rattle.txn_object.proofs.Rule.{state_ok, commit_ok, pointer_rule, rule_from}
 use Rattle.txn_object.proofs.Runs.{set_words, set_in_row, row-stop}
 use Rattle.txn_object.proofs.Walk.{words_at}
-use Rattle.txn_object.proofs.Frames.{map_same, pointer_same, segment_same, places_up_to_same, pointer_to-same, segment_pointer-same, place_cases, InSegment}
+use Rattle.txn_object.proofs.Frames.{map_same, pointer_same, segment_same, places_up_to_same, segment_pointer-same, place_cases}
 use Rattle.txn_object.proofs.Entering.{words_at-same}
-use Rattle.txn_object.proofs.Taken.{StandsOn, IsTaken, taken, source_stands}
-use Rattle.txn_object.proofs.Readying.{SameButSegment, zero-out, zero-in, zero_is_part, out_or_in, same_heap, segment_in, segment_behind, readied, readied_is, readied_is_set, readied_count, readied_zero, readied_same}
+use Rattle.txn_object.proofs.Taken.{StandsOn, taken}
+use Rattle.txn_object.proofs.Readying.{SameButSegment, zero-out, same_heap, segment_in, segment_behind, readied, readied_is_set, readied_count, readied_zero, readied_same}
 
 -- two ready segments are two
 pub segments_differ : (words : List ℕ) (object : ℕ) → Keeps words (object_rule object) → (a b : ℕ) → a < b → b < ready_count words object → segment_of words object a ≢ segment_of words object b

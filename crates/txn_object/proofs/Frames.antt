@@ -1,19 +1,16 @@
 -- An object whose count and pointers stay: its segments and the places of its entries stay too.
-use Rattle.std.proofs.Common.{◌≡◌, ◌≢◌, ◌⊎◌, inl, inr, ⊎_elim, ℕ, zero, suc, ◌+◌, ◌-◌, ◌*◌, ◌/◌, ◌%◌, ◌^◌, ◌<◌, ◌≤◌, min, Bool, true, false, not, ◌&&◌, ◌||◌, eqb, leb, ltb, List, [], ◌∷◌, ◌++◌, length, map, get_or, refl, sym, ◌∙◌, ap, subst, arith}
+use Rattle.std.proofs.Common.{◌≡◌, ◌≢◌, ◌⊎◌, inl, inr, ⊎_elim, ℕ, zero, suc, ◌+◌, ◌-◌, ◌*◌, ◌/◌, ◌%◌, ◌^◌, ◌<◌, ◌≤◌, min, Bool, not, ◌&&◌, ◌||◌, eqb, leb, ltb, List, ◌∷◌, ◌++◌, length, map, get_or, refl, sym, ◌∙◌, ap, subst, arith}
 use Rattle.std.specs.List.{flat_map, range_with_len}
 use Rattle.std.proofs.lemmas.Bool.{cases_eq, cases_lt}
 use Rattle.pm_model.specs.Pointer.{pointer_word}
 use Rattle.pm_model.specs.Fixed.{state_at, commit_word_at, ready_at, last_at, entry_at, first_segment_at}
 use Rattle.pm_model.specs.Places.{below, place_in, is_pointer_to, is_null_or_pointer_to}
 use Rattle.pm_model.specs.Records.{segment_entry_at}
-use Rattle.pm_model.specs.Checks.{Keeps}
-use Rattle.pm_model.specs.HeapLaws.{AreApart}
 use Rattle.pm_model.specs.Objects.{commit_word, ready_count, segment_pointer_at, segment_of, pointer_after, ready_segments, entry_places}
-use Rattle.pm_model.specs.EntryRules.{is_among, is_segment_pointer, object_rule}
-use Rattle.txn_object.specs.Extension.{segment_block}
+use Rattle.pm_model.specs.EntryRules.{is_among, is_segment_pointer}
 use Rattle.txn_object.specs.Shown.{HasObject}
 use Rattle.txn_object.proofs.Places.{places_up_to, all_places, own_place, more_place, length-entry_places}
-use Rattle.txn_object.proofs.Rule.{at_most_32, state_ok, commit_ok, pointer_rule, after_ok, within, rule_from}
+use Rattle.txn_object.proofs.Rule.{at_most_32, commit_ok, pointer_rule, after_ok, within, rule_from}
 
 pub map_same : {A : Type 0} (f g : ℕ → A) (a n : ℕ) → ((k : ℕ) → a ≤ k → k < a + n → f k ≡ g k) → map f (range_with_len a n) ≡ map g (range_with_len a n)
 map_same f g a zero same = refl

@@ -6,8 +6,10 @@ pub mod Lines
 pub mod Places
 pub mod Planning
 pub mod Readying
+pub mod Retire
 pub mod Rule
 pub mod Runs
 pub mod Taken
+pub mod TestObject
 pub mod Walk
 pub mod Whole

@@ -1,23 +1,17 @@
 -- What planning an extension relies on lets the extension begin.
-use Rattle.std.proofs.Common.{◌≡◌, ◌≢◌, ◌⊎◌, inl, inr, ⊎_elim, ℕ, zero, suc, ◌+◌, ◌*◌, ◌/◌, ◌%◌, ◌<◌, ◌≤◌, true, List, [], ◌∷◌, ◌++◌, length, get_or, refl, sym, ◌∙◌, ap, subst, append-nil, arith}
+use Rattle.std.proofs.Common.{◌≡◌, ◌≢◌, inl, inr, ℕ, zero, suc, ◌<◌, ◌≤◌, List, ◌++◌, length, refl, sym, ◌∙◌, ap, subst, append-nil, arith}
 use Rattle.std.specs.Prelude.{Contains}
-use Rattle.std.specs.List.{range_with_len}
-use Rattle.std.proofs.lemmas.Grind.{flat_map-append}
 use Rattle.pm_model.specs.declared.action.Action.{Action}
-use Rattle.pm_model.specs.Fixed.{descriptor_at, ready_at, first_segment_at}
 use Rattle.pm_model.specs.Pointer.{pointer_word}
-use Rattle.pm_model.specs.Places.{page_at, page_count, place_in}
-use Rattle.pm_model.specs.Plans.{Part, plan_of, part_actions, one_store, words_after, finished}
-use Rattle.pm_model.specs.Blocks.{Block, live_blocks}
+use Rattle.pm_model.specs.Places.{place_in}
+use Rattle.pm_model.specs.Blocks.{live_blocks}
 use Rattle.pm_model.specs.Objects.{ready_count, segment_pointer_at, segment_of, pointer_after}
-use Rattle.heap_palloc.specs.Law.{IsHeapPage}
-use Rattle.heap_palloc.specs.Index.{HeapIndex, IsIndexOf}
-use Rattle.heap_palloc.specs.Choice.{Choice, choice_parts, choice_block, choice_page, IsThrough, IsChosen}
+use Rattle.heap_palloc.specs.Index.{HeapIndex}
 use Rattle.heap_palloc.specs.Calls.{IsDest, MayCall, IsAllocated}
-use Rattle.txn_object.specs.Extension.{Source, owned, allocated, Extension, new_segment, segment_from, source_parts, zero_part, readying_parts, extension_parts, segment_block, HasSegments, IsNoSegment, MayExtend}
-use Rattle.txn_object.specs.Calls.{next_pointer, OwnsNext, MayPlanExtension, IsChosenSource, IsExtensionPlanned, IsSegmentPlanned}
-use Rattle.txn_object.proofs.Rule.{NamesSegment, named_after}
-use Rattle.txn_object.proofs.Taken.{StandsOn, IsTaken, taken, IsFresh, fresh, choice_length}
+use Rattle.txn_object.specs.Extension.{owned, allocated, segment_block, HasSegments, IsNoSegment}
+use Rattle.txn_object.specs.Calls.{next_pointer, MayPlanExtension, IsSegmentPlanned}
+use Rattle.txn_object.proofs.Rule.{named_after}
+use Rattle.txn_object.proofs.Taken.{fresh, choice_length}
 
 -- the word for the pointer may hold one
 pub owner_dest : (words : List ℕ) (object segment : ℕ) → object < 16 → HasSegments words object → segment ≤ ready_count words object → IsDest words (segment_pointer_at words object segment)

@@ -1,22 +1,19 @@
 -- The parts that make a segment ready: which words they leave as they are.
-use Rattle.std.proofs.Common.{◌≡◌, ◌≢◌, ◌⊎◌, inl, inr, ⊎_elim, ℕ, zero, suc, ◌+◌, ◌-◌, ◌*◌, ◌/◌, ◌%◌, ◌<◌, ◌≤◌, true, false, ◌||◌, eqb, List, [], ◌∷◌, ◌++◌, length, get_or, set, refl, sym, ◌∙◌, ap, subst, arith}
+use Rattle.std.proofs.Common.{◌≡◌, ◌≢◌, ◌⊎◌, inl, inr, ⊎_elim, ℕ, zero, suc, ◌+◌, ◌%◌, ◌<◌, ◌≤◌, true, false, eqb, List, [], ◌++◌, length, get_or, set, refl, sym, ◌∙◌, ap, subst, arith}
 use Rattle.std.specs.List.{range_with_len}
 use Rattle.std.proofs.lemmas.Bool.{cases_eq, cases_lt, eq-eqb, ne_eqb, or_left, or_right, or_from}
 use Rattle.std.proofs.lemmas.List.{get_or-set_same, get_or-set_other, length-set}
 use Rattle.std.proofs.lemmas.Grind.{flat_map-append}
 use Rattle.pm_model.specs.declared.action.Action.{Action}
 use Rattle.pm_model.specs.Fixed.{descriptor_at, ready_at}
-use Rattle.pm_model.specs.Places.{page_at, page_count}
-use Rattle.pm_model.specs.Device.{IsBetween}
-use Rattle.pm_model.specs.Plans.{Part, stores, one_store, footprint, words_after, finished, plan_of, part_actions, IsPart, IsPlan}
-use Rattle.pm_model.specs.Blocks.{live_blocks}
+use Rattle.pm_model.specs.Places.{page_at}
+use Rattle.pm_model.specs.Plans.{footprint, words_after, finished, plan_of, part_actions, IsPart}
 use Rattle.pm_model.specs.Objects.{ready_count}
 use Rattle.pm_model.proofs.Alone.{length-words_after}
 use Rattle.pm_model.proofs.PlanLaw.{words_after-kept}
-use Rattle.pm_model.proofs.Cuts.{is_among, footprint-stores, AreApartBelow, stores_part, stores-written, store_part, finished-append}
-use Rattle.heap_palloc.specs.Law.{IsHeapPage}
+use Rattle.pm_model.proofs.Cuts.{is_among, footprint-stores, AreApartBelow, stores_part, stores-written, finished-append}
 use Rattle.heap_palloc.specs.Index.{HeapIndex, IsIndexOf}
-use Rattle.heap_palloc.proofs.LiveBlocks.{SameHeap, inside_from, is_inside-same, is_small_page-same, live_blocks-same}
+use Rattle.heap_palloc.proofs.LiveBlocks.{SameHeap, inside_from, is_inside-same, is_small_page-same}
 use Rattle.heap_palloc.proofs.Rooms.{free-same, room-same, rooms_kept}
 use Rattle.heap_palloc.proofs.Reindex.{runs_of, runs_kept}
 use Rattle.txn_object.specs.Extension.{Extension, new_segment, source_parts, segment_from, zero_part, readying_parts, extension_parts, MayExtend}

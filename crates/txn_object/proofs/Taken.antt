@@ -1,25 +1,24 @@
 -- Segments as blocks of the heap: each is the one slot of a small page.
-use Rattle.std.proofs.Common.{◌≡◌, ◌≢◌, ◌⊎◌, inl, inr, ⊎_elim, ℕ, ◌+◌, ◌-◌, ◌*◌, ◌/◌, ◌%◌, ◌^◌, ◌<◌, ◌≤◌, true, false, not, leb, List, [], ◌∷◌, ◌++◌, length, get_or, refl, sym, ◌∙◌, ap, subst, arith, pow_mono}
+use Rattle.std.proofs.Common.{◌≡◌, ⊎_elim, ℕ, ◌+◌, ◌-◌, ◌*◌, ◌^◌, ◌<◌, ◌≤◌, true, not, leb, List, [], ◌∷◌, length, sym, ◌∙◌, ap, subst, arith, pow_mono}
 use Rattle.std.specs.Prelude.{Contains}
 use Rattle.std.specs.Int.{bit_at}
 use Rattle.std.proofs.lemmas.Bool.{cases_lt, leb-true, and_parts, and_from, not_from_false}
-use Rattle.std.proofs.lemmas.List.{length-append, length-map}
+use Rattle.std.proofs.lemmas.List.{length-append}
 use Rattle.std.proofs.lemmas.Grind.{flat_map-append}
 use Rattle.pm_model.specs.declared.action.Action.{Action}
-use Rattle.pm_model.specs.declared.action.Action.TheVariants.{Flush, Fence}
-use Rattle.pm_model.specs.Fixed.{descriptor_at, lane_op_at}
+use Rattle.pm_model.specs.Fixed.{lane_op_at}
 use Rattle.pm_model.specs.Pointer.{pointer_word}
-use Rattle.pm_model.specs.Places.{page_at, page_count, place_in}
-use Rattle.pm_model.specs.Plans.{Part, plan_of, part_actions, part_end, lines_of, one_store}
-use Rattle.pm_model.specs.Blocks.{Block, slot_words, slots_of, slot_at, says_small, descriptor_of, class_of, bitmap_of, is_inside, is_free_page, is_small_page, live_blocks}
-use Rattle.pm_model.specs.Objects.{ready_count, segment_of, pointer_after}
-use Rattle.pm_model.proofs.Heap.{page_of_block, small_class, big_pages, IsSmallOf, IsBigOf}
+use Rattle.pm_model.specs.Places.{page_count}
+use Rattle.pm_model.specs.Plans.{Part, plan_of, part_actions, one_store}
+use Rattle.pm_model.specs.Blocks.{Block, slot_words, slots_of, slot_at, says_small, descriptor_of, class_of, bitmap_of, is_inside, is_small_page, live_blocks}
+use Rattle.pm_model.specs.Objects.{segment_of}
+use Rattle.pm_model.proofs.Heap.{page_of_block, small_class, IsSmallOf, IsBigOf}
 use Rattle.pm_model.proofs.Lines.{length-lines_of}
 use Rattle.heap_big.specs.declared.run.Run.{Run}
 use Rattle.heap_palloc.specs.Lane.{mark_at}
 use Rattle.heap_palloc.specs.Parts.{Allocation, lane_part, allocation_parts, new_page_parts}
-use Rattle.heap_palloc.specs.Law.{IsHeapPage, Slot, taking, slot_allocation}
-use Rattle.heap_palloc.specs.Choice.{Choice, in_page, on_new_page, in_run, choice_parts, choice_block, choice_page, IsThrough, IsChosen, MayMake}
+use Rattle.heap_palloc.specs.Law.{IsHeapPage, taking, slot_allocation}
+use Rattle.heap_palloc.specs.Choice.{Choice, in_page, on_new_page, in_run, choice_parts, choice_block, choice_page, IsChosen, MayMake}
 use Rattle.heap_small.specs.Bitmap.{with_bit}
 use Rattle.heap_palloc.specs.Calls.{KeepsHeapRules}
 use Rattle.heap_palloc.proofs.Dests.{small_heap_page}
@@ -124,7 +123,7 @@ source_stands words object rules (allocated choice) may = of_choice choice may.0
 -- ── how many actions its plan has ──
 
 -- a part has no more flushes than stores, and one fence
-part_length : (part : Part) → length (part_actions part) ≤ 2 * length part + 1
+pub part_length : (part : Part) → length (part_actions part) ≤ 2 * length part + 1
 part_length part = let all = length-part_actions part in let most = length-lines_of part in omega (arith, all, most)
 
 abbrev logged_parts : Allocation → List Part

@@ -1,15 +1,14 @@
 -- The extension of an object as a whole: the segment allocated or owned already, and then made ready.
-use Rattle.std.proofs.Common.{◌≡◌, ◌≢◌, ◌⊎◌, inl, inr, ⊎_elim, eqb, ℕ, suc, ◌+◌, ◌*◌, ◌/◌, ◌%◌, ◌<◌, ◌≤◌, true, List, [], ◌∷◌, ◌++◌, length, get_or, refl, sym, ◌∙◌, ap, subst, arith}
+use Rattle.std.proofs.Common.{◌≡◌, ◌≢◌, ◌⊎◌, inl, inr, ⊎_elim, eqb, ℕ, suc, ◌+◌, ◌/◌, ◌%◌, ◌<◌, ◌≤◌, List, [], ◌∷◌, ◌++◌, length, get_or, refl, sym, ◌∙◌, ap, subst, arith}
 use Rattle.std.specs.Prelude.{Contains}
-use Rattle.std.proofs.lemmas.Bool.{cases_lt, or_left, or_right, and_from, eq-eqb, lt-ltb, le-leb}
+use Rattle.std.proofs.lemmas.Bool.{cases_lt, or_left, or_right, eq-eqb}
 use Rattle.pm_model.specs.declared.action.Action.{Action}
-use Rattle.pm_model.specs.Fixed.{ready_at, lane_op_at, first_segment_at}
+use Rattle.pm_model.specs.Fixed.{ready_at, lane_op_at}
 use Rattle.pm_model.specs.Pointer.{pointer_word}
-use Rattle.pm_model.specs.Places.{place_in, is_pointer_to, is_null_or_pointer_to}
+use Rattle.pm_model.specs.Places.{is_pointer_to}
 use Rattle.pm_model.specs.Device.{Device}
 use Rattle.pm_model.specs.Plans.{Part, EachCut, IsPlan, finished, Play, IsPlaying, IsCrashImageWithin, IsTakenBack}
 use Rattle.pm_model.specs.Blocks.{Block, live_blocks}
-use Rattle.pm_model.specs.HeapLaws.{AreApart}
 use Rattle.heap_palloc.specs.Index.{HeapIndex, IsIndexOf}
 use Rattle.txn_object.specs.Calls.{MayPlanExtension}
 use Rattle.pm_model.specs.Objects.{ready_count, segment_pointer_at, ready_segments, segment_of, pointer_after}
@@ -18,8 +17,8 @@ use Rattle.pm_model.proofs.PlanLaw.{plan_survives_parts, plan_ended_parts}
 use Rattle.heap_palloc.specs.Lane.{mended_lane}
 use Rattle.heap_palloc.specs.Shown.{GainsOne}
 use Rattle.heap_palloc.specs.Law.{Shows, ChangesShown}
-use Rattle.heap_palloc.specs.Choice.{Choice, in_page, on_new_page, in_run, choice_parts, choice_block, choice_page, choice_pages, IsThrough, MayMake}
-use Rattle.heap_palloc.proofs.Stages.{place_in-pointer, pointer-some}
+use Rattle.heap_palloc.specs.Choice.{Choice, in_page, on_new_page, in_run, choice_parts, choice_block, choice_page, choice_pages, MayMake}
+use Rattle.heap_palloc.proofs.Stages.{pointer-some}
 use Rattle.heap_palloc.proofs.Changes.{change_settles}
 use Rattle.heap_palloc.proofs.Choices.{choice_plan, choice_allocates}
 use Rattle.heap_palloc.proofs.RulesKept.{rules_from, rules_at, kept_same, choice_rules}
@@ -30,10 +29,8 @@ use Rattle.std.proofs.lemmas.List.{length-append, get_or_append_left}
 use Rattle.std.proofs.Math.Seq.{get_or-append_seam}
 use Rattle.std.proofs.lemmas.List.FromFn.{length-map-range_with_len, get_or-map-range_with_len}
 use Rattle.pm_model.proofs.Members.{Contains-here, Contains-there}
-use Rattle.txn_object.specs.Extension.{Source, owned, allocated, Extension, new_segment, source_parts, readying_parts, extension_parts, segment_block, HasSegments, MayExtend, MayTake}
-use Rattle.txn_object.specs.Shown.{IsElsewhereOf, HasObject, HasSegment, HasNoSegment, IsUnextended, IsExtended}
-use Rattle.txn_object.proofs.Rule.{after_ok}
-use Rattle.txn_object.proofs.Frames.{pointer_to-same}
+use Rattle.txn_object.specs.Extension.{Source, owned, allocated, Extension, new_segment, readying_parts, extension_parts, segment_block, HasSegments, MayExtend}
+use Rattle.txn_object.specs.Shown.{IsElsewhereOf, HasObject, IsUnextended, IsExtended}
 use Rattle.txn_object.proofs.Taken.{StandsOn, taken, source_stands}
 use Rattle.txn_object.proofs.Readying.{zero_is_part, segment_in, segment_behind, same_heap, readied, readied_is, readied_same}
 use Rattle.txn_object.proofs.Extending.{AtSegment, segments_differ, choice_changes, choice_unowned, unextended, new_pointer_sound, ready_elsewhere, blocks_end, op_here, is_extended, mended_ready, readying_cuts}
@@ -243,8 +240,8 @@ module _ (base : List ℕ) (object : ℕ) (choice : Choice) (may : MayExtend bas
 
   again_here : HasSegments (finished (extension_parts base (record { object = object; source = allocated choice })) base) object
   again_here = end_again base (record { object = object; source = allocated choice }) may page stands (finished (choice_parts base choice) base) at (choice_rules base choice may.segments.rules may.source.0)
-        (gained-new (live_blocks base) (segment_block (choice_block choice).first) (live_blocks (finished (choice_parts base choice) base)) gains)
-        (λ block within. gained-old (live_blocks base) (segment_block (choice_block choice).first) block (live_blocks (finished (choice_parts base choice) base)) gains within)
+      (gained-new (live_blocks base) (segment_block (choice_block choice).first) (live_blocks (finished (choice_parts base choice) base)) gains)
+      (λ block within. gained-old (live_blocks base) (segment_block (choice_block choice).first) block (live_blocks (finished (choice_parts base choice) base)) gains within)
 
   pub allocated_shown : IsShown base (record { object = object; source = allocated choice })
   allocated_shown = record {

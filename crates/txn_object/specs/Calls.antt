@@ -1,5 +1,5 @@
 -- What planning an extension relies on, and what it gives.
-use Rattle.std.specs.Prelude.{◌≡◌, ◌≢◌, ◌⊎◌, ℕ, ◌<◌, List, ◌++◌, Contains, slice_index}
+use Rattle.std.specs.Prelude.{◌≡◌, ◌≢◌, ℕ, ◌<◌, List, ◌++◌, Contains, slice_index}
 use Rattle.pm_model.specs.declared.action.Action.{Action}
 use Rattle.pm_model.specs.Fixed.{lane_op_at}
 use Rattle.pm_model.specs.Places.{place_in}

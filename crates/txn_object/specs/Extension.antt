@@ -1,6 +1,6 @@
 -- The extension of a transaction object by a segment: it is allocated, unless the object owns it already; its words are
 -- made 0; and it is ready.
-use Rattle.std.specs.Prelude.{◌≡◌, ◌≢◌, ℕ, ◌+◌, ◌<◌, ◌≤◌, ◌%◌, List, [], ◌∷◌, ◌++◌, Contains, length, slice_index}
+use Rattle.std.specs.Prelude.{◌≡◌, ◌≢◌, ℕ, ◌+◌, ◌<◌, List, [], ◌∷◌, ◌++◌, Contains, slice_index}
 use Rattle.std.specs.List.{range_with_len}
 use Rattle.pm_model.specs.Fixed.{lane_op_at, ready_at}
 use Rattle.pm_model.specs.Pointer.{pointer_word}

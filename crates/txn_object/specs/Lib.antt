@@ -4,3 +4,4 @@ pub mod Entries
 pub mod Extension
 pub mod Object
 pub mod Shown
+pub mod TestObject

@@ -1,5 +1,5 @@
 -- What the words of a transaction object show, and what the plans of a transaction may rest on.
-use Rattle.std.specs.Prelude.{◌≡◌, ◌≢◌, ◌⊎◌, ℕ, ◌+◌, ◌%◌, ◌^◌, ◌<◌, ◌≤◌, List, [], ◌∷◌, ◌++◌, length, slice_index}
+use Rattle.std.specs.Prelude.{◌≡◌, ◌≢◌, ◌⊎◌, ℕ, ◌+◌, ◌%◌, ◌^◌, ◌<◌, ◌≤◌, Bool, IsTrue, List, [], ◌∷◌, ◌++◌, length, slice_index}
 use Rattle.pm_model.specs.declared.action.Action.{Action}
 use Rattle.pm_model.specs.Device.{Device}
 use Rattle.pm_model.specs.Fixed.{state_at, commit_word_at, ready_at}
@@ -11,7 +11,7 @@ use Rattle.pm_model.specs.Checks.{Keeps}
 use Rattle.pm_model.specs.Objects.{ready_count, segment_of, pointer_after, ready_segments, entry_places, entries}
 use Rattle.pm_model.specs.EntryRules.{object_rule}
 use Rattle.txn_object.specs.declared.entry.Entry.{Entry}
-use Rattle.txn_object.specs.Object.{entries_in, NoEntryFollowsZero}
+use Rattle.txn_object.specs.Object.{entries_in, nth_place, NoEntryFollowsZero}
 use Rattle.txn_object.specs.Extension.{Source, owned, allocated, Extension, new_segment, extension_parts, segment_block}
 use Rattle.heap_palloc.specs.Law.{IsElsewhere}
 use Rattle.heap_palloc.specs.Choice.{choice_page, choice_pages}
@@ -54,6 +54,26 @@ pub record IsCut (play : Play) (left : List Action) (d : Device) (image base : L
   pub playing : IsPlaying play played left d
   pub left_by : IsCrashImageWithin play.own d image
   pub back : IsTakenBack play image base
+
+-- ── a retire ──
+
+-- the words that the second part of a retire clears: the first entries and, where it is set, the commit word
+abbrev pub IsCleared : List ℕ → ℕ → ℕ → Bool → ℕ → Type 0
+IsCleared words object entries word w = ((nth : ℕ) × (nth < entries) × (w ≡ nth_place words object nth)) ⊎ (IsTrue word × (w ≡ commit_word_at object))
+
+-- The object is idle, of the words to clear each is the old one or 0, and all other words are the old ones.
+pub record IsRetiring (old : List ℕ) (object entries : ℕ) (word : Bool) (words : List ℕ) : Type 0 where
+  pub size : length words ≡ length old
+  pub state : slice_index words (state_at object) ≡ 0
+  pub cleared : (w : ℕ) → IsCleared old object entries word w → (slice_index words w ≡ slice_index old w) ⊎ (slice_index words w ≡ 0)
+  pub others : (w : ℕ) → w ≢ state_at object → ¬ IsCleared old object entries word w → slice_index words w ≡ slice_index old w
+
+-- The object is idle, the words to clear are 0, and all other words are the old ones.
+pub record IsRetired (old : List ℕ) (object entries : ℕ) (word : Bool) (words : List ℕ) : Type 0 where
+  pub size : length words ≡ length old
+  pub state : slice_index words (state_at object) ≡ 0
+  pub cleared : (w : ℕ) → IsCleared old object entries word w → slice_index words w ≡ 0
+  pub others : (w : ℕ) → w ≢ state_at object → ¬ IsCleared old object entries word w → slice_index words w ≡ slice_index old w
 
 -- ── an extension ──
 

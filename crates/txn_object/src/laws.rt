@@ -1,20 +1,20 @@
 // What an object's words show through each power cut, whatever is played beside the plan.
-ghost use Rattle.std.specs.Prelude.{◌≡◌, ◌≢◌, ◌⊎◌, ◌↔◌, ℕ, ◌^◌, ◌%◌, ◌<◌, ◌≤◌, [], ◌∷◌, ◌++◌, IsTrue, List, length, slice_index};
+ghost use Rattle.std.specs.Prelude.{Bool, ◌≡◌, ◌≢◌, ◌⊎◌, ◌↔◌, ℕ, ◌^◌, ◌%◌, ◌<◌, ◌≤◌, [], ◌∷◌, ◌++◌, IsTrue, List, length, slice_index};
 ghost use Rattle.pm_model.specs.declared.action.Action.{Action};
 ghost use Rattle.pm_model.specs.Device.{Device, IsClean};
-ghost use Rattle.pm_model.specs.Fixed.{state_at};
-ghost use Rattle.pm_model.specs.Plans.{Play, IsPlaying, IsPlan, finished, footprint, plan_of};
+ghost use Rattle.pm_model.specs.Fixed.{state_at, commit_word_at};
+ghost use Rattle.pm_model.specs.Plans.{Play, IsPlaying, IsPlan, EachCut, finished, footprint, plan_of};
 ghost use Rattle.pm_model.specs.Blocks.{live_blocks};
-ghost use Rattle.pm_model.specs.Objects.{pointer_after};
+ghost use Rattle.pm_model.specs.Objects.{entry_places, pointer_after};
 ghost use Rattle.heap_palloc.specs.Lane.{mended_lane};
 ghost use Rattle.heap_palloc.specs.Shown.{GainsOne};
 ghost use Rattle.txn_object.specs.declared.entry.Entry.{Entry};
 ghost use Rattle.txn_object.specs.Entries.{entry_word, entry_of};
-ghost use Rattle.txn_object.specs.Object.{nth_place, begin_parts, entry_part, NoEntryFollowsZero};
+ghost use Rattle.txn_object.specs.Object.{entries_in, nth_place, begin_parts, entry_part, retire_parts, NoEntryFollowsZero};
 ghost use Rattle.heap_palloc.specs.Index.{HeapIndex, IsIndexOf};
 ghost use Rattle.txn_object.specs.Calls.{MayPlanExtension};
 ghost use Rattle.txn_object.specs.Extension.{Extension, new_segment, extension_parts, segment_block, HasSegments, MayExtend};
-ghost use Rattle.txn_object.specs.Shown.{Transaction, Shows, HasObject, MayEnter, IsCut, IsUnextended, IsExtended};
+ghost use Rattle.txn_object.specs.Shown.{Transaction, Shows, HasObject, MayEnter, IsCut, IsUnextended, IsExtended, IsRetiring, IsRetired};
 
 /// A begin: the state before it or 1, and from its last action on 1. The entries stay.
 pub fn begin_law()
@@ -86,4 +86,23 @@ pub fn extension_law()
     ensures goes_on { (base : List ℕ) (e : Extension) (index : HeapIndex) → MayExtend base e → IsIndexOf (finished (extension_parts base e) base) index →
         MayPlanExtension (finished (extension_parts base e) base) index e.object }
     ensures object { (words : List ℕ) (object : ℕ) → object < 16 → 2048 ≤ length words → length words % 32768 ≡ 0 → HasSegments words object → HasObject words object }
+{}
+
+/// A retire, for a plan that ends with it: until its first part is fenced the words are the old ones or the object is idle,
+/// and from there on it is idle whatever its entries are. After its last part they and the commit word are 0.
+pub fn retire_law()
+    ensures plan { (words : List ℕ) (object entries : ℕ) (word : Bool) → HasObject words object → entries ≤ length (entry_places words object) →
+        IsPlan (length words) (retire_parts words object entries word) }
+    ensures each { (base : List ℕ) (object entries : ℕ) (word : Bool) → HasObject base object → entries ≤ length (entry_places base object) →
+        EachCut (λ image. (image ≡ base) ⊎ IsRetiring base object entries word image) (retire_parts base object entries word) base }
+    ensures ends { (base : List ℕ) (object entries : ℕ) (word : Bool) → HasObject base object → entries ≤ length (entry_places base object) →
+        IsRetired base object entries word (finished (retire_parts base object entries word) base) }
+
+    // Where no fewer entries are cleared than the transaction has, none is left.
+    ensures shows { (old : List ℕ) (object entries : ℕ) (word : Bool) (words : List ℕ) → HasObject old object → entries ≤ length (entry_places old object) →
+        IsRetired old object entries word words → length (entries_in old object) ≤ entries → NoEntryFollowsZero old object → (IsTrue word ⊎ (slice_index old (commit_word_at object) ≡ 0)) →
+        Shows words object (record { state = 0; commit_word = 0; entries = [] }) }
+    ensures empty { (old : List ℕ) (object entries : ℕ) (word : Bool) (words : List ℕ) (nth : ℕ) → HasObject old object → entries ≤ length (entry_places old object) →
+        IsRetired old object entries word words → length (entries_in old object) ≤ entries → NoEntryFollowsZero old object → nth < length (entry_places old object) →
+        slice_index words (nth_place old object nth) ≡ 0 }
 {}

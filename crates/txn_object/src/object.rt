@@ -1,5 +1,5 @@
 // The plans of a transaction on its object. Session k has object k - 1.
-ghost use Rattle.std.specs.Prelude.{◌≡◌, ◌+◌, ◌-◌, ◌^◌, ◌<◌, ◌≤◌, ◌||◌, ◌==◌, ◌++◌, min, not, take, length, if◌then◌else◌, IfOk, IsTrue};
+ghost use Rattle.std.specs.Prelude.{ℕ, List, ◌≡◌, ◌+◌, ◌-◌, ◌^◌, ◌<◌, ◌≤◌, ◌||◌, ◌==◌, ◌++◌, min, not, take, length, if◌then◌else◌, IfOk, IsTrue};
 ghost use Rattle.std.specs.List.{range_with_len};
 ghost use Rattle.pm_model.specs.Checks.{Keeps};
 ghost use Rattle.pm_model.specs.EntryRules.{object_rule};
@@ -42,6 +42,15 @@ pub fn push_entry<M: Memory>(plan: &mut Plan, mem: &M, session: u8, nth: u32, en
     ensures spare { plan.new.spare + 3 ≡ plan.old.spare }
 {
     plan.push_store(entry_place(mem, session - 1, nth), entry.word());
+}
+
+/// Room that is enough for the actions that `push_retire` adds, for as many entries and, where `word` says so, the commit
+/// word: a store and at most one flush for each of them, a fence, and the 3 actions of the first part.
+pub fn retire_room(entries: u32, word: bool) -> u32
+    requires { entries ≤ 8220 }
+    ensures { (words : List ℕ) (object : ℕ) → entries ≤ length (entry_places words object) → length (plan_of (retire_parts words object entries word)) ≤ result }
+{
+    STORE_ACTIONS + 2 * (entries + u32::from(word)) + 1
 }
 
 /// Adds the parts that end the session's transaction: its object becomes idle, and then its first `entries` entry words

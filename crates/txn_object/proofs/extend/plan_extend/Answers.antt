@@ -1,4 +1,4 @@
-use Rattle.std.proofs.Common.{◌-◌, ◌∙◌, arith}
+use Rattle.std.proofs.Common.{◌-◌}
 use Rattle.txn_object.proofs.Readying.{planned_segment, extended_planned}
 use Rattle.txn_object.proofs.extend.plan_extend.Goals as goal
 

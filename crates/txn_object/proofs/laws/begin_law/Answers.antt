@@ -1,4 +1,4 @@
-use Rattle.std.proofs.Common.{◌≡◌, ◌⊎◌, inl, inr, ⊎_elim, ℕ, List, set, sym, subst, arith}
+use Rattle.std.proofs.Common.{◌≡◌, inl, inr, ⊎_elim, ℕ, List, set, sym, subst, arith}
 use Rattle.pm_model.specs.Fixed.{state_at}
 use Rattle.txn_object.specs.Shown.{Shows, HasObject}
 use Rattle.txn_object.proofs.Entering.{cut-one_store, ended-one_store, others-one_store, clean-one_store, state_object, state_shows}

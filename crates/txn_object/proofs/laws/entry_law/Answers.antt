@@ -1,4 +1,4 @@
-use Rattle.std.proofs.Common.{◌≡◌, ◌⊎◌, inl, inr, ⊎_elim, ℕ, List, [], ◌∷◌, ◌++◌, set, get_or, sym, subst, arith}
+use Rattle.std.proofs.Common.{◌≡◌, inl, inr, ⊎_elim, ℕ, List, [], ◌∷◌, ◌++◌, set, get_or, sym, subst}
 use Rattle.pm_model.specs.Objects.{entry_places}
 use Rattle.pm_model.proofs.Cuts.{store_part}
 use Rattle.txn_object.specs.Entries.{entry_word}

@@ -9,7 +9,6 @@ use Rattle.std.proofs.lemmas.Bool.{cases_lt}
 use Rattle.txn_object.specs.Object.{clear_part}
 use Rattle.txn_object.proofs.Rule.{at_most_32}
 use Rattle.txn_object.proofs.Places.{length-entry_places}
-use Rattle.pm_model.specs.Plans.{lines_of}
 use Rattle.txn_object.proofs.Clears.{Ends, ends_part, length-clear_part, length-part_actions, bit_is, bit_most}
 use Rattle.txn_object.proofs.object.push_clear.Goals as goal
 

@@ -1,5 +1,3 @@
-use Rattle.std.proofs.Common.{◌≡◌, ◌∙◌, ℕ, cond, arith}
-use Rattle.std.proofs.lemmas.Bool.{cond-true, cond-false}
 use Rattle.txn_object.proofs.Clears.{cleared_word, cleared_entries}
 use Rattle.txn_object.proofs.object.push_clear_stores.Goals as goal
 

@@ -1,4 +1,4 @@
-use Rattle.std.proofs.Common.{◌≡◌, ◌-◌, ◌+◌, ◌*◌, ◌<◌, ◌≤◌, ◌∙◌, ℕ, true, List, ap, sym, subst, get_or, length, refl, arith}
+use Rattle.std.proofs.Common.{◌≡◌, ◌-◌, ◌<◌, ℕ, true, List, sym, subst, get_or, length, refl, arith}
 use Rattle.pm_model.specs.Places.{is_pointer}
 use Rattle.pm_model.specs.Objects.{ready_count}
 use Rattle.txn_object.proofs.Rule.{named, pointer_in, within}

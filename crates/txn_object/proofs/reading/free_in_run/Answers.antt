@@ -1,5 +1,5 @@
-use Rattle.std.proofs.Common.{◌≡◌, ◌≤◌, ◌+◌, arith}
-use Rattle.txn_object.proofs.Runs.{zeros_in_row, free-yes, free-no}
+use Rattle.std.proofs.Common.{arith}
+use Rattle.txn_object.proofs.Runs.{free-yes, free-no}
 use Rattle.txn_object.proofs.reading.free_in_run.Goals as goal
 use Rattle.txn_object.proofs.reading.free_in_run.Goals.{then-load-eq0, else-load-eq0}
 
