@@ -1,5 +1,5 @@
 -- The checks of arrays.
-use Rattle.std.proofs.Common.{◌≡◌, ℕ, ◌+◌, ◌*◌, ◌<◌, ◌≤◌, Bool, true, false, leb, List, [], ◌∷◌, ◌++◌, map, get_or, refl, sym, ◌∙◌, ap, arith}
+use Rattle.std.proofs.Common.{◌≡◌, ℕ, ◌<◌, ◌≤◌, true, false, leb, List, [], ◌++◌, map, get_or, sym, ◌∙◌, ap}
 use Rattle.std.specs.Prelude.{Option, None, Some}
 use Rattle.std.specs.Option.{is_some}
 use Rattle.std.specs.List.{flat_map}
@@ -8,7 +8,7 @@ use Rattle.std.proofs.lemmas.List.Folds.{flat_map-map}
 use Rattle.pm_model.specs.Places.{below}
 use Rattle.pm_model.specs.Records.{column_at, columns_at, created_header, ended_header, codes_header, dictionary_header}
 use Rattle.pm_model.specs.Arrays.{array_rule, chunk_count, chunk_pointer_at, is_chunk_pointer}
-use Rattle.pm_model.specs.Tables.{table_count, table_block, table_blocks, array_headers, column_headers, columns_of}
+use Rattle.pm_model.specs.Tables.{table_count, table_block, array_headers, column_headers, columns_of}
 use Rattle.pm_model.specs.Checks.{Check, check, Keeps, first_failing}
 use Rattle.pm_model.specs.EntryRules.{arrays_rule}
 use Rattle.pm_model.proofs.Faults.{first_failing-none}

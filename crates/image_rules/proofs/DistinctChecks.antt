@@ -1,11 +1,10 @@
 -- The checks that names differ.
-use Rattle.std.proofs.Common.{◌≡◌, ⊎_elim, ℕ, zero, suc, ◌+◌, ◌-◌, ◌<◌, ◌≤◌, Bool, true, false, not, ◌&&◌, ◌||◌, eqb, List, [], ◌∷◌, ◌++◌, map, get_or, refl, sym, ◌∙◌, ap, add-one, arith}
-use Rattle.std.specs.Prelude.{Option, None, Some}
+use Rattle.std.proofs.Common.{◌≡◌, ⊎_elim, ℕ, zero, suc, ◌+◌, ◌-◌, ◌<◌, Bool, true, false, not, List, [], ◌∷◌, ◌++◌, map, refl, sym, ◌∙◌, ap, add-one, arith}
+use Rattle.std.specs.Prelude.{Option, Some}
 use Rattle.std.specs.Option.{is_some}
 use Rattle.std.specs.List.{range_with_len, list_any}
 use Rattle.std.proofs.lemmas.Bool.{cases_eq, or_left, or_right, or_from, not_from_true, not_from_false}
-use Rattle.pm_model.specs.Places.{below}
-use Rattle.pm_model.specs.Records.{column_at, column_name_at, columns_at, table_name_at}
+use Rattle.pm_model.specs.Records.{column_at, column_name_at, table_name_at}
 use Rattle.pm_model.specs.Tables.{table_count, table_block, columns_of}
 use Rattle.pm_model.specs.Checks.{Check, check, first_failing}
 use Rattle.pm_model.specs.SoundRules.{same_name, name_place_checks, table_name_checks, distinct_name_rule}

@@ -1,21 +1,19 @@
 -- The checks of entries.
-use Rattle.std.proofs.Common.{◌≡◌, ◌≢◌, ◌⊎◌, ⊎_elim, ℕ, zero, suc, ◌+◌, ◌-◌, ◌*◌, ◌<◌, ◌≤◌, Bool, true, false, not, ◌&&◌, ◌||◌, cond, eqb, leb, List, [], ◌∷◌, ◌++◌, map, get_or, refl, sym, ◌∙◌, ap, add-one, subst, arith}
-use Rattle.std.specs.Prelude.{Option, None, Some, filter}
+use Rattle.std.proofs.Common.{◌≡◌, ◌≢◌, ◌⊎◌, ⊎_elim, ℕ, zero, suc, ◌+◌, ◌-◌, ◌<◌, ◌≤◌, true, false, not, ◌&&◌, ◌||◌, cond, eqb, leb, List, [], ◌∷◌, ◌++◌, map, get_or, sym, ◌∙◌, ap, add-one, arith}
+use Rattle.std.specs.Prelude.{Option, None, Some}
 use Rattle.std.specs.Option.{is_some}
 use Rattle.std.specs.List.{range_with_len, flat_map}
 use Rattle.std.proofs.lemmas.Option.{none-some}
 use Rattle.std.proofs.lemmas.Bool.{cases_Bool, false≢true, leb-true, eq-eqb, ne_eqb, or_from, or_left, or_right, and_from, and_left, and_right, and_parts, not_from_true, not_from_false, cond-true, cond-false}
-use Rattle.pm_model.specs.Fixed.{entry_at, state_at, ready_at, commit_word_at}
+use Rattle.pm_model.specs.Fixed.{entry_at, state_at, ready_at}
 use Rattle.pm_model.specs.Places.{below, is_pointer_to}
-use Rattle.pm_model.specs.Records.{segment_entry_at, created_header, ended_header}
-use Rattle.pm_model.specs.Arrays.{array_rule}
-use Rattle.pm_model.specs.Tables.{table_count, table_block}
-use Rattle.pm_model.specs.Objects.{is_open, ready_count, segment_pointer_at, segment_of, ready_segments, entry_places}
+use Rattle.pm_model.specs.Records.{segment_entry_at}
+use Rattle.pm_model.specs.Objects.{is_open, ready_count, segment_pointer_at, segment_of, entry_places}
 use Rattle.pm_model.specs.Checks.{Check, check, Keeps, first_failing}
-use Rattle.pm_model.specs.EntryRules.{arrays_rule, objects_rule, object_rule, entries_rule, entry_checks, is_entry, is_segment_pointer}
+use Rattle.pm_model.specs.EntryRules.{objects_rule, object_rule, entries_rule, entry_checks, is_entry, is_segment_pointer}
 use Rattle.pm_model.proofs.Faults.{first_failing-none, all_hold}
 use Rattle.image_rules.specs.Parts.{segment_checks}
-use Rattle.image_rules.proofs.Firsts.{map_holds, map-range, passes, fails, pass-all, fail-first, none-append, none-head, flat_none, flat_part, flat_found, found_none, flat_map-filter}
+use Rattle.image_rules.proofs.Firsts.{map_holds, map-range, passes, fails, none-append, none-head, flat_none, flat_part, flat_found, found_none, flat_map-filter}
 
 module _ (words : List ℕ) where
   -- ── what kept rules say ──

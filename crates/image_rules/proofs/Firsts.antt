@@ -10,8 +10,8 @@ use Rattle.std.proofs.lemmas.Option.{none-some}
 use Rattle.std.proofs.lemmas.List.Concat.{flat_map_single, flat_map-append}
 use Rattle.std.proofs.lemmas.List.FromFn.{length-map-range_with_len, get_or-map-range_with_len}
 use Rattle.pm_model.specs.Places.{below}
-use Rattle.pm_model.specs.Checks.{Check, check, first_failing}
-use Rattle.pm_model.proofs.Faults.{Holds}
+use Rattle.pm_model.specs.Checks.{Check, check, Rule, Keeps, first_failing}
+use Rattle.pm_model.proofs.Faults.{Holds, all_hold}
 
 pub passes : (c : Check) (checks : List Check) → c.holds ≡ true → first_failing (c ∷ checks) ≡ first_failing checks
 passes c checks hit = rw hit refl
@@ -162,3 +162,7 @@ map-range f (suc n) a b each =
 pub map-flat_map : {X Y A : Type 0} (h : Y → A) (g : X → List Y) (xs : List X) → map h (flat_map g xs) ≡ flat_map (λ x. map h (g x)) xs
 map-flat_map h g [] = refl
 map-flat_map h g (x ∷ xs) = map-append h (g x) (flat_map g xs) ∙ ap (λ (ys : List _). map h (g x) ++ ys) (map-flat_map h g xs)
+
+-- a rule of which no check was found to fail is kept
+pub kept_rule : (words : List ℕ) (rule : Rule) (found : Option ℕ) → found ≡ first_failing (rule words) → found ≡ None → Keeps words rule
+kept_rule words rule found here none = record { checks = all_hold (rule words) (sym here ∙ none) }

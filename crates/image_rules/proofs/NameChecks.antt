@@ -1,12 +1,12 @@
 -- The checks of names and kinds.
-use Rattle.std.proofs.Common.{◌≡◌, ◌≢◌, ⊎_elim, ℕ, ◌+◌, ◌/◌, ◌<◌, ◌≤◌, ◌⊎◌, inl, inr, Bool, true, false, ◌||◌, eqb, List, [], ◌∷◌, ◌++◌, map, get_or, refl, sym, ◌∙◌, ap, arith}
+use Rattle.std.proofs.Common.{◌≡◌, ◌≢◌, ⊎_elim, ℕ, ◌+◌, ◌/◌, ◌<◌, ◌⊎◌, true, false, List, get_or, sym, ◌∙◌, ap}
 use Rattle.std.specs.Prelude.{Option, None, Some}
 use Rattle.std.specs.Option.{is_some}
 use Rattle.std.specs.List.{flat_map}
 use Rattle.std.proofs.lemmas.Bool.{ne_eqb, eq-eqb, or_from, or_left, or_right}
 use Rattle.std.proofs.lemmas.List.Folds.{flat_map-map}
 use Rattle.pm_model.specs.Places.{below}
-use Rattle.pm_model.specs.Records.{column_at, columns_at, column_name_at, kind_at, table_name_at}
+use Rattle.pm_model.specs.Records.{column_at, columns_at, column_name_at, table_name_at}
 use Rattle.pm_model.specs.Tables.{table_count, table_block, columns_of}
 use Rattle.pm_model.specs.Checks.{Check, check, first_failing}
 use Rattle.pm_model.specs.EntryRules.{name_rule, name_checks, kind_check, is_padded_name_byte}

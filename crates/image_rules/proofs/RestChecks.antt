@@ -1,5 +1,5 @@
 -- The checks that words are 0.
-use Rattle.std.proofs.Common.{◌≡◌, ◌≢◌, ⊎_elim, ℕ, ◌+◌, ◌*◌, ◌/◌, ◌%◌, ◌<◌, ◌≤◌, Bool, true, false, not, ◌&&◌, cond, eqb, ltb, List, [], ◌∷◌, ◌++◌, map, get_or, refl, sym, ◌∙◌, ap, arith}
+use Rattle.std.proofs.Common.{◌≡◌, ◌≢◌, ⊎_elim, ℕ, ◌+◌, ◌*◌, ◌/◌, ◌%◌, ◌<◌, ◌≤◌, true, false, not, cond, eqb, ltb, List, [], ◌∷◌, ◌++◌, map, get_or, sym, ◌∙◌, ap, arith}
 use Rattle.std.specs.Prelude.{Option, None, Some, filter}
 use Rattle.std.specs.Option.{is_some}
 use Rattle.std.specs.Bool.{then_some}
@@ -10,10 +10,10 @@ use Rattle.std.proofs.lemmas.List.Folds.{flat_map-map}
 use Rattle.pm_model.specs.Fixed.{lane_op_at, state_at, commit_word_at, entry_at, table_slot_at, descriptor_at}
 use Rattle.pm_model.specs.Places.{below, page_at, page_count}
 use Rattle.pm_model.specs.Records.{segment_entry_at}
-use Rattle.pm_model.specs.Blocks.{inside_at, is_inside, is_given_back, descriptor_of}
+use Rattle.pm_model.specs.Blocks.{inside_at, is_given_back, descriptor_of}
 use Rattle.pm_model.specs.Tables.{table_count}
 use Rattle.pm_model.specs.Objects.{ready_count, segment_of, ready_segments, entry_places}
-use Rattle.pm_model.specs.Checks.{Check, check, first_failing}
+use Rattle.pm_model.specs.Checks.{Check, first_failing}
 use Rattle.pm_model.specs.SoundRules.{zero_check, idle_rule, closed_rule, given_back_rule}
 use Rattle.image_rules.specs.Parts.{next_slot_rule, object_zeros}
 use Rattle.image_rules.proofs.Firsts.{passes, fails, lone, map_none, map_some, map_none_from, map_some_from, flat_none, flat_found, found_none, first_of, then_rest, flat_map-filter, map-flat_map, map-range}

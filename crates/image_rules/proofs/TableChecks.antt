@@ -1,14 +1,13 @@
 -- The checks of table slots, and what they say of a table's block.
-use Rattle.std.proofs.Common.{◌≡◌, ℕ, ◌+◌, ◌-◌, ◌*◌, ◌/◌, ◌%◌, ◌^◌, ◌<◌, ◌≤◌, Bool, true, false, ◌&&◌, ltb, leb, eqb, cond, List, [], length, get_or, refl, sym, ◌∙◌, ap, subst, arith}
+use Rattle.std.proofs.Common.{◌≡◌, ℕ, ◌+◌, ◌%◌, ◌<◌, ◌≤◌, Bool, true, false, ◌&&◌, ltb, leb, List, length, get_or, refl, sym, ◌∙◌, ap, arith}
 use Rattle.std.specs.Prelude.{◌↔◌, Option, None, Some, IsNone, IsSome}
 use Rattle.std.proofs.lemmas.Bool.{and_parts, both_ways, ltb-true, leb-true, lt-ltb, cond-true}
 use Rattle.pm_model.specs.Fixed.{table_slot_at}
-use Rattle.pm_model.specs.Places.{below, place_in, is_pointer, is_in_segment}
-use Rattle.pm_model.specs.Records.{columns_at, table_words}
-use Rattle.pm_model.specs.Tables.{table_count, table_block}
+use Rattle.pm_model.specs.Places.{place_in, is_pointer, is_in_segment}
+use Rattle.pm_model.specs.Records.{table_words}
+use Rattle.pm_model.specs.Tables.{table_count}
 use Rattle.pm_model.specs.Checks.{Check, check, Keeps, first_failing}
 use Rattle.pm_model.specs.EntryRules.{is_table_slot, is_table_pointer, table_slot_rule, table_count_rule}
-use Rattle.pm_model.proofs.Faults.{first_failing-none}
 use Rattle.image_rules.specs.Parts.{IsTableBlock}
 use Rattle.image_rules.proofs.Firsts.{map_none, map_some, map_holds}
 

@@ -1,15 +1,11 @@
 -- An image that keeps the rules which stand keeps those on which the mending of lanes relies.
-use Rattle.std.proofs.Common.{◌≡◌, ℕ, List, sym, ◌∙◌, arith}
-use Rattle.std.specs.Prelude.{Option, None}
-use Rattle.pm_model.specs.Checks.{Rule, Keeps, first_failing, first_fault}
+use Rattle.std.proofs.Common.{◌≡◌, ℕ, List, arith}
+use Rattle.std.specs.Prelude.{None}
+use Rattle.pm_model.specs.Checks.{first_fault}
 use Rattle.pm_model.specs.HeapRules.{reserved_rule}
-use Rattle.pm_model.proofs.Faults.{all_hold, keeps_all}
+use Rattle.pm_model.proofs.Faults.{keeps_all}
 use Rattle.pmem_recover.specs.EntryRules.{entry_rules}
 use Rattle.pmem_recover.specs.Lanes.{KeepsLaneRules}
-
--- a rule of which no check was found to fail is kept
-pub kept_rule : (words : List ℕ) (rule : Rule) (found : Option ℕ) → found ≡ first_failing (rule words) → found ≡ None → Keeps words rule
-kept_rule words rule found here none = record { checks = all_hold (rule words) (sym here ∙ none) }
 
 pub entry-lanes : (words : List ℕ) → first_fault entry_rules words ≡ None → KeepsLaneRules words
 entry-lanes words none =

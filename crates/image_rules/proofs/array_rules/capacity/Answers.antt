@@ -1,5 +1,5 @@
 use Rattle.std.proofs.Common.{arith}
-use Rattle.image_rules.proofs.Capacities.{capacity_most, capacity_next}
+use Rattle.image_rules.proofs.Capacities.{capacity_most}
 use Rattle.image_rules.proofs.array_rules.capacity.Goals as goal
 
 pub overflow_add-capacity : goal.overflow_add-capacity

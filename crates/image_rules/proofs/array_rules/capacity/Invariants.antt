@@ -1,4 +1,4 @@
-use Rattle.std.proofs.Common.{◌≡◌, ◌*◌, ◌≤◌}
+use Rattle.std.proofs.Common.{◌≡◌}
 use Rattle.pm_model.specs.Arrays.{capacity_of}
 use Rattle.image_rules.proofs.array_rules.capacity.Given as goal
 

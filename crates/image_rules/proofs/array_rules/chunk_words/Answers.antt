@@ -1,4 +1,4 @@
-use Rattle.std.proofs.Common.{◌≡◌, ℕ, ◌*◌, ◌%◌, ◌^◌, ◌≤◌, min, pow_mono, arith}
+use Rattle.std.proofs.Common.{ℕ, ◌*◌, ◌%◌, ◌^◌, ◌≤◌, pow_mono, arith}
 use Rattle.image_rules.proofs.array_rules.chunk_words.Goals as goal
 
 shifted : (m : ℕ) → m ≤ 5 → (512 * 2 ^ m) % 4294967296 ≤ 16384

@@ -1,6 +1,4 @@
-use Rattle.std.proofs.Common.{◌≡◌, ℕ, sym, ◌∙◌, ap}
-use Rattle.pm_model.specs.Arrays.{array_rule}
-use Rattle.pm_model.specs.Checks.{first_failing}
+use Rattle.std.proofs.Common.{sym, ◌∙◌}
 use Rattle.image_rules.proofs.ArrayChecks.{array_at, codes_found, dictionary_found}
 use Rattle.image_rules.proofs.array_rules.column_arrays_fault.Goals as goal
 

@@ -1,4 +1,4 @@
-use Rattle.std.proofs.Common.{◌≡◌, ℕ, sym, ◌∙◌, ap, arith}
+use Rattle.std.proofs.Common.{sym, ◌∙◌, ap}
 use Rattle.pm_model.specs.Records.{column_at, column_name_at}
 use Rattle.pm_model.specs.SoundRules.{same_name}
 use Rattle.image_rules.proofs.DistinctChecks.{any_later}

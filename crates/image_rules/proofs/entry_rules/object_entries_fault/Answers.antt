@@ -1,4 +1,4 @@
-use Rattle.std.proofs.Common.{◌≡◌, ℕ, ◌+◌, ◌-◌, get_or, refl, sym, ◌∙◌, ap, arith}
+use Rattle.std.proofs.Common.{ℕ, ◌+◌, ◌-◌, get_or, refl, sym, ◌∙◌, ap, arith}
 use Rattle.pm_model.specs.Objects.{ready_count}
 use Rattle.pm_model.specs.Checks.{first_failing}
 use Rattle.pm_model.specs.EntryRules.{entry_checks}

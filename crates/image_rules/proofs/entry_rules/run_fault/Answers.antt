@@ -1,5 +1,4 @@
 use Rattle.std.proofs.Common.{◌≡◌, ◌≢◌, ◌⊎◌, inl, inr, ℕ, ◌+◌, ◌-◌, false, true, get_or, sym, ◌∙◌, ap, arith}
-use Rattle.std.specs.Prelude.{Some}
 use Rattle.std.specs.List.{range_with_len}
 use Rattle.std.proofs.lemmas.Bool.{eq-eqb, not-true, not-false, both_ways}
 use Rattle.pm_model.specs.Checks.{first_failing}

@@ -1,4 +1,4 @@
-use Rattle.std.proofs.Common.{◌≡◌, ℕ, ◌<◌, ◌≤◌, List, get_or, sym, ◌∙◌, ap, subst, arith}
+use Rattle.std.proofs.Common.{ℕ, ◌≤◌, get_or, sym, ◌∙◌, ap, subst, arith}
 use Rattle.pm_model.specs.Records.{created_header, ended_header}
 use Rattle.image_rules.proofs.ArrayChecks.{table_kept, created_kept, ended_kept}
 use Rattle.image_rules.proofs.TableChecks.{count_most}

@@ -1,4 +1,4 @@
-use Rattle.std.proofs.Common.{sym, ◌∙◌, arith}
+use Rattle.std.proofs.Common.{◌∙◌, arith}
 use Rattle.image_rules.proofs.ObjectChecks.{state_fails, commit_fails, ready_fails, ready_passes}
 use Rattle.image_rules.proofs.object_rules.object_fault.Goals as goal
 

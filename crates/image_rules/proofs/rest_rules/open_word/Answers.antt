@@ -1,6 +1,6 @@
 use Rattle.std.proofs.Common.{◌+◌, refl, sym, ◌∙◌, below_more, arith}
 use Rattle.image_rules.proofs.ObjectChecks.{next_pointer}
-use Rattle.image_rules.proofs.RestChecks.{Begins, state_used, commit_used, own_used, segment_used, segment_zero, object_closed}
+use Rattle.image_rules.proofs.RestChecks.{state_used, commit_used, own_used, segment_used, segment_zero, object_closed}
 use Rattle.image_rules.proofs.rest_rules.open_word.Goals as goal
 
 pub returns-then-words-state-ne0 : goal.returns-then-words-state-ne0

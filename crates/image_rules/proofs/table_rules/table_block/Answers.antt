@@ -1,5 +1,5 @@
 use Rattle.std.proofs.Common.{◌≡◌, ℕ, true, get_or, sym, ◌∙◌, ap, subst}
-use Rattle.pm_model.specs.Places.{place_in, is_pointer}
+use Rattle.pm_model.specs.Places.{place_in}
 use Rattle.pm_model.specs.EntryRules.{is_table_pointer}
 use Rattle.image_rules.specs.Parts.{IsTableBlock}
 use Rattle.image_rules.proofs.TableChecks.{slot_pointer, block_pointer, is_block, pointed_some}

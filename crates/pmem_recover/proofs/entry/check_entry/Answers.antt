@@ -1,5 +1,5 @@
 use Rattle.pm_model.specs.EntryRules.{table_slot_rule, arrays_rule, objects_rule}
-use Rattle.pmem_recover.proofs.FirstFault.{kept_rule}
+use Rattle.image_rules.proofs.Firsts.{kept_rule}
 use Rattle.pmem_recover.proofs.entry.check_entry.Goals as goal
 
 pub arrays_fault-requires-clause-slots : goal.arrays_fault-requires-clause-slots
