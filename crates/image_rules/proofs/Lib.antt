@@ -14,3 +14,4 @@ pub mod LiveChecks
 pub mod OwnerChecks
 pub mod OwnedChecks
 pub mod BuiltOwners
+pub mod Kept

@@ -35,3 +35,6 @@ pub use pointers::{is_block_pointer, is_null_or_words, pointed_place, pointed_wo
 pub use table_rules::{
     columns_of, published_tables, table_block, table_count_fault, table_slot_fault,
 };
+
+#[cfg(test)]
+mod tests;
