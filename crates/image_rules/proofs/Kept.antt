@@ -1,5 +1,5 @@
 -- A rule is kept where the function that tries it finds nothing.
-use Rattle.std.proofs.Common.{◌≡◌, ℕ, false, List, sym, ◌∙◌}
+use Rattle.std.proofs.Common.{◌≡◌, ℕ, false, List}
 use Rattle.std.specs.Prelude.{Option}
 use Rattle.std.specs.Option.{is_some}
 use Rattle.pm_model.specs.Checks.{Rule, Keeps, first_failing}
