@@ -7,6 +7,7 @@ pub mod EntryChecks
 pub mod Faults
 pub mod Firsts
 pub mod HeapChecks
+pub mod Kept
 pub mod LaneChecks
 pub mod LiveChecks
 pub mod NameChecks

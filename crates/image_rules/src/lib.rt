@@ -38,3 +38,6 @@ pub use rest_rules::{closed_fault, given_back_fault, idle_fault, next_slot_fault
 pub use table_rules::{
     columns_of, published_tables, table_block, table_count_fault, table_slot_fault,
 };
+
+#[cfg(test)]
+mod tests;

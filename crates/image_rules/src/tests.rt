@@ -1,0 +1,94 @@
+ghost use Rattle.std.specs.Prelude.{◌≡◌, length};
+
+use crate::*;
+use pm_model::{NoMemory, fresh};
+use std::alloc::Global;
+use std::process::Abort;
+use std::test::Fail;
+
+// The first word that breaks the rule of named blocks, that of single owners, and that of owned blocks.
+type Faults = [Option<u32>; 3];
+
+// None where the image breaks a rule that these rely on.
+fn owner_faults(alloc: Global, words: &[u64]) -> Result<Option<Faults>, NoMemory>
+    requires { length words.now ≡ 32768 }
+{
+    if table_count_fault(words).is_some() {
+        return Ok(None);
+    }
+    if table_slot_fault(words).is_some() {
+        return Ok(None);
+    }
+    if objects_fault(words).is_some() {
+        return Ok(None);
+    }
+    let named = owner_fault(alloc, words)?;
+    let single = single_owner_fault(alloc, words)?;
+    let owned = owned_fault(alloc, words)?;
+    Ok(Some([named, single, owned]))
+}
+
+// The faults of a formatted image of one segment in which words were changed, and then others.
+fn changed_faults(
+    rt: &impl Abort,
+    alloc: Global,
+    table: &[(usize, u64)],
+    changes: &[(usize, u64)],
+) -> Result<Option<Faults>, NoMemory> {
+    let mut words = fresh(alloc, 1)?;
+    for (place, value) in table {
+        assert!(rt; *place < words.len());
+        words[*place] = *value;
+    }
+    for (place, value) in changes {
+        assert!(rt; *place < words.len());
+        words[*place] = *value;
+    }
+    assert_eq!(rt; words.len(), 32768);
+    owner_faults(alloc, &words)
+}
+
+// A table with one column, whose block is the first slot of page 4, of 128 words.
+const TABLE: [(usize, u64); 5] = [(515, 1), (520, 4_294_969_352), (4, 6), (2048, 1), (2056, 1)];
+
+// The pointer to page 5, and to the slot of page 6 as a page with one slot.
+const CHUNK: u64 = 4_294_969_856;
+
+const SEGMENT: u64 = 4_294_970_376;
+
+#[test]
+fn each_block_has_one_owner(rt: HostRuntime) -> Result<(), Fail> {
+    let cases: [(&[(usize, u64)], Faults); 12] = [
+        (&[], [None, None, None]),
+        (&[(4, 7)], [Some(520), None, None]),
+        (&[(2048, 0)], [Some(520), None, None]),
+        (&[(2048, 3)], [None, None, Some(2184)]),
+        (&[(5, 17)], [None, None, Some(2560)]),
+        (&[(5, 17), (2065, CHUNK)], [None, None, None]),
+        (&[(5, 18), (2065, CHUNK)], [Some(2065), None, None]),
+        (
+            &[(5, 17), (2064, 1), (2066, CHUNK)],
+            [Some(2066), None, None],
+        ),
+        (
+            &[(5, 17), (2065, CHUNK), (2081, CHUNK)],
+            [None, Some(2081), None],
+        ),
+        (
+            &[(6, 7), (3072, 1), (1026, 1), (1027, SEGMENT)],
+            [None, None, None],
+        ),
+        (&[(6, 7), (3072, 1), (1027, SEGMENT)], [None, None, None]),
+        (
+            &[(6, 7), (3072, 1), (1027, SEGMENT), (1091, SEGMENT)],
+            [None, Some(1091), None],
+        ),
+    ];
+    for (changes, faults) in cases {
+        assert_eq!(rt;
+            changed_faults(&rt, rt.alloc(), &TABLE, changes)?,
+            Some(faults)
+        );
+    }
+    Ok(())
+}
