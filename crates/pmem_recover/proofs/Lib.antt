@@ -15,3 +15,4 @@ pub mod Faults
 pub mod HeapChecks
 pub mod LaneChecks
 pub mod FirstFault
+pub mod TestObjects
