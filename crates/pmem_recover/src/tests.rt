@@ -1,7 +1,12 @@
 ghost use Rattle.std.specs.Prelude.{◌≤◌};
+ghost use Rattle.pm_model.specs.Checks.{Keeps};
+ghost use Rattle.pm_model.specs.EntryRules.{objects_rule};
 
 use crate::*;
-use pm_model::{Action, Keep, Memory, Place, Plain, Plan, fresh};
+use pm_model::{
+    Action, Keep, Memory, OBJECTS, Place, Plain, Plan, commit_word, fresh, object_state,
+    ready_segments, segment_pointer,
+};
 use std::alloc::Global;
 use std::process::Abort;
 use std::test::Fail;
@@ -286,6 +291,115 @@ fn a_cut_allocation_or_freeing_is_done_or_undone(rt: HostRuntime) -> Result<(), 
             };
             assert_eq!(rt; mended_cut(&rt, rt.alloc(), played, keep)?, words);
         }
+    }
+    Ok(())
+}
+
+// Stops unless the objects have no segments, are open or not, and have a commit word of at most 1.
+fn assert_plain<M: Memory>(rt: &impl Abort, memory: &M)
+    ensures { Keeps (M.device memory.now).cached objects_rule }
+{
+    for object in 0..OBJECTS {
+        assert!(rt; memory.load(object_state(object)) <= 1);
+        assert!(rt; memory.load(commit_word(object)) <= 1);
+        assert!(rt; memory.load(ready_segments(object)) == 0);
+        assert!(rt; memory.load(segment_pointer(object)) == 0);
+    }
+}
+
+// Plays a plan to its end.
+fn play_all<M: Memory>(rt: &impl Abort, memory: &mut M, mut plan: Plan) {
+    for _ in 0..plan.len() {
+        let Some(action) = plan.next() else { break };
+        act(rt, memory, 0, action);
+    }
+}
+
+// Plays the step of the last commit number, and those that close and clear objects, until none is left. The number of
+// plans, and of actions of the last one.
+fn finish_objects<M: Memory>(
+    rt: &impl Abort,
+    alloc: Global,
+    memory: &mut M,
+) -> Result<(u32, u32), NoMemory> {
+    let mut plans: u32 = 0;
+    let mut actions = 0;
+    if let Some((number, plan)) = next_last(alloc, memory, 0)? {
+        assert_eq!(rt; number, 0);
+        plans = plans.saturating_add(1);
+        play_all(rt, memory, plan);
+    }
+    for from in 0..16 {
+        if let Some((number, plan)) = next_idle(alloc, memory, from)? {
+            assert_eq!(rt; number, from);
+            plans = plans.saturating_add(1);
+            play_all(rt, memory, plan);
+        }
+    }
+    for from in 0..16 {
+        assert_plain(rt, memory);
+        if let Some((number, plan)) = next_clear(alloc, memory, from)? {
+            assert!(rt; number >= from);
+            plans = plans.saturating_add(1);
+            actions = plan.len();
+            play_all(rt, memory, plan);
+        }
+    }
+    Ok((plans, actions))
+}
+
+// Changes three words of a formatted image of one segment, and finishes its objects.
+fn finished_words(
+    rt: &impl Abort,
+    alloc: Global,
+    changes: [(usize, u64); 3],
+    read: [u32; 4],
+) -> Result<((u32, u32), [u64; 4]), NoMemory> {
+    let mut words = fresh(alloc, 1)?;
+    for (place, value) in changes {
+        assert!(rt; place < 32768);
+        words[place] = value;
+    }
+    let mut memory = Plain::new(alloc, words)?;
+    let counts = finish_objects(rt, alloc, &mut memory)?;
+    let mut found = [0; 4];
+    for (nth, place) in read.iter().enumerate() {
+        assert!(rt; *place < 32768);
+        found[nth] = memory.load(Place(*place));
+    }
+    Ok((counts, found))
+}
+
+// Object 0 stands at 1024 and object 15 at 1984: the state, the commit word, and from the fifth word on the entries.
+#[test]
+fn objects_are_closed_and_cleared(rt: HostRuntime) -> Result<(), Fail> {
+    for (changes, read, counts, found) in [
+        // Nothing is left to do.
+        (
+            [(1000, 0), (1000, 0), (1000, 0)],
+            [514, 1024, 1025, 1028],
+            (0, 0),
+            [0, 0, 0, 0],
+        ),
+        // A commit that the last number lacks: the number, the state, and then two words of one line.
+        (
+            [(1024, 1), (1025, 1), (1028, 9)],
+            [514, 1024, 1025, 1028],
+            (3, 4),
+            [1, 0, 0, 0],
+        ),
+        // A closed object, whose commit word doesn't count: two words of two lines.
+        (
+            [(1985, 1), (2047, 9), (1000, 0)],
+            [514, 1984, 1985, 2047],
+            (1, 5),
+            [0, 0, 0, 0],
+        ),
+    ] {
+        assert_eq!(rt;
+            finished_words(&rt, rt.alloc(), changes, read)?,
+            (counts, found)
+        );
     }
     Ok(())
 }

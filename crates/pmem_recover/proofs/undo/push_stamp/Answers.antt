@@ -1,7 +1,6 @@
 use Rattle.std.proofs.Common.{ℕ, ◌<◌, List, length, arith}
 use Rattle.pm_model.specs.Objects.{entry_table}
 use Rattle.pm_model.specs.Tables.{table_count}
-use Rattle.pmem_recover.specs.Changes.{change}
 use Rattle.pmem_recover.proofs.Undoing.{within-push}
 use Rattle.pmem_recover.proofs.UndoRules.{tables-few, table-pointer, table-within, keeps-created, keeps-ended, entry-parts, named-block}
 use Rattle.pmem_recover.proofs.undo.push_stamp.Goals as goal
@@ -59,7 +58,7 @@ place_of-place-requires-else-entry-eq-CREATED-clause-rule g c =
     keeps-ended words c.requires.rules (entry_table c.args.entry) c.read_pointer-table.result.0 c.ended_header.result.0 (entry-parts words c.args.entry c.requires.entry).table block c.ended_header.ensures
 
 pub returns-then-stamp-eq0-clause-within : goal.returns-then-stamp-eq0-clause-within
-returns-then-stamp-eq0-clause-within g c all = within-push (length (g.M.Memory.device c.args.mem.now).cached) c.args.changes.now.items c.push_reserved.new.self.items (change c.place_of-place.result.0 18446744073709551615) c.push_reserved.ensures.items c.place_of-place.ensures.in_image all
+returns-then-stamp-eq0-clause-within g c all = within-push (length (g.M.Memory.device c.args.mem.now).cached) c.args.changes.now.items c.push_reserved.new.self.items _ c.push_reserved.ensures.items c.place_of-place.ensures.in_image all
 
 pub returns-then-last-load-clause-within : goal.returns-then-last-load-clause-within
-returns-then-last-load-clause-within g c all = within-push (length (g.M.Memory.device c.args.mem.now).cached) c.args.changes.now.items c.push_reserved-then-last-load.new.self.items (change c.place_of-place-else-entry-eq-CREATED.result.0 0) c.push_reserved-then-last-load.ensures.items c.place_of-place-else-entry-eq-CREATED.ensures.in_image all
+returns-then-last-load-clause-within g c all = within-push (length (g.M.Memory.device c.args.mem.now).cached) c.args.changes.now.items c.push_reserved-then-last-load.new.self.items _ c.push_reserved-then-last-load.ensures.items c.place_of-place-else-entry-eq-CREATED.ensures.in_image all
