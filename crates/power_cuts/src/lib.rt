@@ -7,4 +7,6 @@ mod witness;
 pub use witness::Witness;
 
 #[cfg(test)]
+mod structures;
+#[cfg(test)]
 mod tests;

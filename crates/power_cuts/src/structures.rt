@@ -1,0 +1,267 @@
+//! Each power cut of the extension of a transaction object and of the creation of a table: opened step by step, the image
+//! is sound and has the change whole or not at all.
+ghost use Rattle.std.specs.Prelude.{◌≡◌, ◌≤◌, None, slice_index};
+ghost use Rattle.pm_model.specs.Fixed.{lane_op_at, ready_at, first_segment_at, table_count_at, table_slot_at};
+ghost use Rattle.pm_model.specs.Checks.{first_fault};
+ghost use Rattle.pmem_recover.specs.EntryRules.{entry_rules};
+
+use arrayvec::ArrayVec;
+use heap_palloc::reopen;
+use img_check::check;
+use mv_model::{Column, Kind, Name, Shape};
+use pm_model::{
+    Action, Keep, Memory, NoMemory, PAGE_WORDS, Place, Plain, Plan, fresh, lane_op, ready_segments,
+    segment_pointer, table_count, table_slot,
+};
+use pmem_recover::{
+    check_entry, next_clear, next_idle, next_lane, next_last, next_slot, next_undo,
+};
+use std::alloc::Global;
+use std::process::Abort;
+use std::test::Fail;
+use txn_object::plan_extend;
+
+const KEEPS: [Keep; 5] = [
+    Keep::Nothing,
+    Keep::All,
+    Keep::Mix(1),
+    Keep::Mix(2),
+    Keep::Mix(3),
+];
+
+// Plays an action that may be played.
+fn act<M: Memory>(rt: &impl Abort, memory: &mut M, session: u8, action: Action)
+    requires { session ≤ 16 }
+{
+    match action {
+        Action::Store { place, value } => {
+            assert!(rt; place.0 < memory.len());
+            assert!(rt; memory.is_clean(place));
+            memory.act(session, Action::Store { place, value });
+        }
+        Action::Flush { line } => {
+            assert!(rt; line < memory.len() / 8);
+            memory.act(session, Action::Flush { line });
+        }
+        Action::Fence => memory.act(session, Action::Fence),
+        Action::Punch { .. } => assert!(rt; false),
+    }
+}
+
+// Plays so many of a plan's actions.
+fn play<M: Memory>(rt: &impl Abort, memory: &mut M, session: u8, plan: &mut Plan, count: u32)
+    requires { session ≤ 16 }
+{
+    for _ in 0..count {
+        if let Some(action) = plan.next() {
+            act(rt, memory, session, action);
+        }
+    }
+}
+
+// The steps of opening that stand.
+#[derive(Clone, Copy)]
+enum Step {
+    Lanes,
+    Slot,
+    Last,
+    Undo,
+    Idle,
+    Clear,
+}
+
+const STEPS: [Step; 6] = [
+    Step::Lanes,
+    Step::Slot,
+    Step::Last,
+    Step::Undo,
+    Step::Idle,
+    Step::Clear,
+];
+
+// The next plan of a step, on an image whose rules are tried first.
+fn next_plan<M: Memory>(
+    rt: &impl Abort,
+    alloc: Global,
+    memory: &M,
+    step: Step,
+    from: u32,
+) -> Result<Option<(u32, Plan)>, NoMemory> {
+    let words = memory.choose(Keep::All)?;
+    match check_entry(alloc, &words) {
+        Ok(()) => match step {
+            Step::Lanes => next_lane(alloc, memory, from),
+            Step::Slot => next_slot(alloc, memory, from),
+            Step::Last => next_last(alloc, memory, from),
+            Step::Undo => next_undo(alloc, memory, from),
+            Step::Idle => next_idle(alloc, memory, from),
+            Step::Clear => next_clear(alloc, memory, from),
+        },
+        Err(_) => panic!(rt; "the image breaks a rule"),
+    }
+}
+
+// Makes one step of opening.
+fn mend<M: Memory>(
+    rt: &impl Abort,
+    alloc: Global,
+    memory: &mut M,
+    step: Step,
+) -> Result<(), NoMemory> {
+    let mut from = 0;
+    for _ in 0..17 {
+        let Some((number, mut plan)) = next_plan(rt, alloc, memory, step, from)? else {
+            return Ok(());
+        };
+        let count = plan.len();
+        play(rt, memory, 0, &mut plan, count);
+        assert!(rt; number < 16);
+        from = number + 1;
+    }
+    Ok(())
+}
+
+// Opens an image of one segment, which is sound then.
+fn open(rt: &impl Abort, alloc: Global, image: Vec<u64>) -> Result<Plain, NoMemory> {
+    assert_eq!(rt; image.len(), 32768);
+    let mut memory = Plain::new(alloc, image)?;
+    for step in STEPS {
+        mend(rt, alloc, &mut memory, step)?;
+    }
+    let words = memory.choose(Keep::All)?;
+    assert_eq!(rt; words.len(), 32768);
+    assert_eq!(rt; check(alloc, &words), Ok(()));
+    Ok(memory)
+}
+
+// The plan by which session 1's object is extended, where it has no segment.
+fn extension<M: Memory>(rt: &impl Abort, alloc: Global, memory: &M) -> Result<Plan, NoMemory> {
+    let words = memory.choose(Keep::All)?;
+    assert_eq!(rt; memory.load(lane_op(0)), 0);
+    assert_eq!(rt; memory.load(ready_segments(0)), 0);
+    assert_eq!(rt; memory.load(segment_pointer(0)), 0);
+    match check_entry(alloc, &words) {
+        Ok(()) => first_extension(rt, alloc, memory),
+        Err(_) => panic!(rt; "the image breaks a rule"),
+    }
+}
+
+fn first_extension<M: Memory>(rt: &impl Abort, alloc: Global, memory: &M) -> Result<Plan, NoMemory>
+    requires rules { first_fault entry_rules (M.device memory.now).cached ≡ None }
+    requires idle { slice_index (M.device memory.now).cached (lane_op_at 0) ≡ 0 }
+    requires none { slice_index (M.device memory.now).cached (ready_at 0) ≡ 0 }
+    requires pointer { slice_index (M.device memory.now).cached (first_segment_at 0) ≡ 0 }
+{
+    let mut heap = reopen(alloc, memory)?;
+    match plan_extend(alloc, memory, &mut heap, 1) {
+        Ok(plan) => Ok(plan),
+        Err(_) => panic!(rt; "there is room"),
+    }
+}
+
+fn name(rt: &impl Abort, text: &str) -> Name {
+    match Name::read(text) {
+        Some(name) => name,
+        None => panic!(rt; "it is a name"),
+    }
+}
+
+// The plan by which the table `t` with one column of integers is created, where there is no table.
+fn creation<M: Memory>(rt: &impl Abort, alloc: Global, memory: &M) -> Result<Plan, NoMemory> {
+    let words = memory.choose(Keep::All)?;
+    assert_eq!(rt; memory.load(lane_op(0)), 0);
+    assert_eq!(rt; memory.load(table_count()), 0);
+    assert_eq!(rt; memory.load(table_slot(0)), 0);
+    match check_entry(alloc, &words) {
+        Ok(()) => first_creation(rt, alloc, memory),
+        Err(_) => panic!(rt; "the image breaks a rule"),
+    }
+}
+
+fn first_creation<M: Memory>(rt: &impl Abort, alloc: Global, memory: &M) -> Result<Plan, NoMemory>
+    requires rules { first_fault entry_rules (M.device memory.now).cached ≡ None }
+    requires idle { slice_index (M.device memory.now).cached (lane_op_at 0) ≡ 0 }
+    requires none { slice_index (M.device memory.now).cached table_count_at ≡ 0 }
+    requires slot { slice_index (M.device memory.now).cached (table_slot_at 0) ≡ 0 }
+{
+    let mut columns = ArrayVec::new();
+    columns.push(Column {
+        name: name(rt, "a"),
+        kind: Kind::Int,
+    });
+    let Some(shape) = Shape::of(columns) else {
+        panic!(rt; "it is a shape")
+    };
+    let mut heap = reopen(alloc, memory)?;
+    let mut catalog = catalog::rebuild(alloc, memory)?;
+    match catalog.plan_create(alloc, memory, &mut heap, 0, &name(rt, "t"), &shape) {
+        Ok(plan) => Ok(plan),
+        Err(_) => panic!(rt; "there is room"),
+    }
+}
+
+#[derive(Clone, Copy)]
+enum Change {
+    Extension,
+    Creation,
+}
+
+// The word that says how often the change was made, on an opened image of the change, cut after so many of its actions.
+fn made_after(
+    rt: &impl Abort,
+    alloc: Global,
+    change: Change,
+    played: u32,
+    keep: Keep,
+) -> Result<u64, NoMemory> {
+    let mut memory = Plain::new(alloc, fresh(alloc, 1)?)?;
+    let (mut plan, counted) = match change {
+        Change::Extension => (extension(rt, alloc, &memory)?, ready_segments(0)),
+        Change::Creation => (creation(rt, alloc, &memory)?, table_count()),
+    };
+    play(rt, &mut memory, 1, &mut plan, played);
+    let opened = open(rt, alloc, memory.choose(keep)?)?;
+    assert!(rt; counted.0 < opened.len());
+    Ok(opened.load(counted))
+}
+
+// Cuts a change after each of its actions: it is made from the store on that publishes it, where all is kept, and from its
+// last action on, where only what is durable is.
+fn cut_everywhere(
+    rt: &impl Abort,
+    alloc: Global,
+    change: Change,
+    actions: u32,
+) -> Result<(), NoMemory>
+    requires { actions ≤ 1000 }
+{
+    for played in 0..=actions {
+        for keep in KEEPS {
+            let made = made_after(rt, alloc, change, played, keep)?;
+            let stored = played + 2 >= actions;
+            let durable = played == actions;
+            match keep {
+                Keep::Nothing => assert_eq!(rt; made, u64::from(durable)),
+                Keep::All => assert_eq!(rt; made, u64::from(stored)),
+                Keep::Mix(_) => assert!(rt;
+                    made == u64::from(stored) || made == u64::from(durable)
+                ),
+            }
+        }
+    }
+    Ok(())
+}
+
+// A page becomes small, a segment is allocated on it, its 256 words are made 0, and it is ready: 6, 16, 289 and 3 actions.
+#[test]
+fn a_cut_extension_is_made_or_not(rt: HostRuntime) -> Result<(), Fail> {
+    cut_everywhere(&rt, rt.alloc(), Change::Extension, 314)?;
+    Ok(())
+}
+
+// A page becomes small, a block is allocated on it, its 80 words are stored, and the count is raised: 6, 16, 91 and 3.
+#[test]
+fn a_cut_creation_is_made_or_not(rt: HostRuntime) -> Result<(), Fail> {
+    cut_everywhere(&rt, rt.alloc(), Change::Creation, 116)?;
+    Ok(())
+}
