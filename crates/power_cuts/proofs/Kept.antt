@@ -89,7 +89,7 @@ may_create words index tables none idle count slot index_of count_of =
 
 -- a catalog of the published tables has as many as are published
 pub count_of_published : (words : List ℕ) (tables : List CatalogTable) → tables ≡ published_tables words → length tables ≡ get_or words table_count_at 0
-count_of_published words tables is = ap length is ∙ length-map (published_table words) (below (get_or words table_count_at 0)) ∙ length-range_with_len 0 (get_or words table_count_at 0)
+count_of_published words tables is = ap length is ∙ length-map (below (get_or words table_count_at 0)) (published_table words) ∙ length-range_with_len 0 (get_or words table_count_at 0)
 
 -- where there is no table, each shows what it should
 pub shows_none : (words : List ℕ) → get_or words table_count_at 0 ≡ 0 → ShowsTables words
