@@ -10,13 +10,14 @@ use heap_palloc::reopen;
 use img_check::check;
 use mv_model::{Column, Kind, Name, Shape};
 use pm_model::{
-    Action, Keep, Memory, NoMemory, PAGE_WORDS, Place, Plain, Plan, fresh, lane_op, ready_segments,
+    Action, Keep, Memory, NoMemory, Place, Plain, Plan, fresh, lane_op, ready_segments,
     segment_pointer, table_count, table_slot,
 };
 use pmem_recover::{
     check_entry, next_clear, next_idle, next_lane, next_last, next_slot, next_undo,
 };
 use std::alloc::Global;
+use std::ops::Range;
 use std::process::Abort;
 use std::test::Fail;
 use txn_object::plan_extend;
@@ -28,6 +29,9 @@ const KEEPS: [Keep; 5] = [
     Keep::Mix(2),
     Keep::Mix(3),
 ];
+
+// The words of the segment: the first slot of page 4.
+const SEGMENT: Range<u32> = 2056..2312;
 
 // Plays an action that may be played.
 fn act<M: Memory>(rt: &impl Abort, memory: &mut M, session: u8, action: Action)
@@ -121,17 +125,15 @@ fn mend<M: Memory>(
     Ok(())
 }
 
-// Opens an image of one segment, which is sound then.
-fn open(rt: &impl Abort, alloc: Global, image: Vec<u64>) -> Result<Plain, NoMemory> {
-    assert_eq!(rt; image.len(), 32768);
-    let mut memory = Plain::new(alloc, image)?;
+// Makes all steps of opening on an image of one segment, which is sound then.
+fn open<M: Memory>(rt: &impl Abort, alloc: Global, memory: &mut M) -> Result<(), NoMemory> {
     for step in STEPS {
-        mend(rt, alloc, &mut memory, step)?;
+        mend(rt, alloc, memory, step)?;
     }
     let words = memory.choose(Keep::All)?;
     assert_eq!(rt; words.len(), 32768);
     assert_eq!(rt; check(alloc, &words), Ok(()));
-    Ok(memory)
+    Ok(())
 }
 
 // The plan by which session 1's object is extended, where it has no segment.
@@ -206,6 +208,27 @@ enum Change {
     Creation,
 }
 
+// A formatted image of one segment in which the words of the first slot of page 4 aren't 0.
+fn used(rt: &impl Abort, alloc: Global) -> Result<Plain, NoMemory> {
+    let mut words = fresh(alloc, 1)?;
+    for place in SEGMENT {
+        assert!(rt; (place as usize) < words.len());
+        words[place as usize] = 9;
+    }
+    assert_eq!(rt; words.len(), 32768);
+    Plain::new(alloc, words)
+}
+
+// A segment that is ready has no entries.
+fn assert_no_entries<M: Memory>(rt: &impl Abort, memory: &M) {
+    if memory.load(ready_segments(0)) > 0 {
+        for place in SEGMENT {
+            assert!(rt; place < memory.len());
+            assert_eq!(rt; memory.load(Place(place)), 0);
+        }
+    }
+}
+
 // The word that says how often the change was made, on an opened image of the change, cut after so many of its actions.
 fn made_after(
     rt: &impl Abort,
@@ -214,13 +237,18 @@ fn made_after(
     played: u32,
     keep: Keep,
 ) -> Result<u64, NoMemory> {
-    let mut memory = Plain::new(alloc, fresh(alloc, 1)?)?;
+    let mut memory = used(rt, alloc)?;
     let (mut plan, counted) = match change {
         Change::Extension => (extension(rt, alloc, &memory)?, ready_segments(0)),
         Change::Creation => (creation(rt, alloc, &memory)?, table_count()),
     };
     play(rt, &mut memory, 1, &mut plan, played);
-    let opened = open(rt, alloc, memory.choose(keep)?)?;
+    let image = memory.choose(keep)?;
+    assert_eq!(rt; image.len(), 32768);
+    let mut opened = Plain::new(alloc, image)?;
+    mend(rt, alloc, &mut opened, Step::Lanes)?;
+    assert_no_entries(rt, &opened);
+    open(rt, alloc, &mut opened)?;
     assert!(rt; counted.0 < opened.len());
     Ok(opened.load(counted))
 }
