@@ -21,14 +21,14 @@ const TABLE: [(usize, u64); 8] = [
     (2097, 97),
 ];
 
-// Checks an image of one segment with this table, after up to five of its words were changed.
+// Checks an image of one segment with this table, after some of its words were changed.
 fn check_changed(
     rt: &impl Abort,
     alloc: Global,
-    changes: [(usize, u64); 5],
+    changes: &[(usize, u64)],
 ) -> Result<Result<(), CheckError>, NoMemory> {
     let mut words = fresh(alloc, 1)?;
-    for (place, value) in TABLE.iter().chain(&changes) {
+    for (place, value) in TABLE.iter().chain(changes) {
         assert!(rt; *place < words.len());
         words[*place] = *value;
     }
@@ -42,52 +42,57 @@ fn broken(rule: u8, place: u32) -> Result<(), CheckError> {
 
 #[test]
 fn the_first_broken_rule_is_told(rt: HostRuntime) -> Result<(), Fail> {
-    let same = (1000, 0);
-    for (changes, told) in [
-        ([same, same, same, same, same], Ok(())),
-        ([(512, 0), same, same, same, same], broken(1, 512)),
-        ([(513, 9), same, same, same, same], broken(2, 513)),
-        ([(514, 1 << 40), same, same, same, same], broken(3, 514)),
-        ([(515, 33), same, same, same, same], broken(4, 515)),
-        ([(0, 0), same, same, same, same], broken(5, 0)),
-        ([(9, 9), same, same, same, same], broken(6, 9)),
-        ([(2048, 11), same, same, same, same], broken(7, 2048)),
-        ([(576, 3), same, same, same, same], broken(8, 576)),
-        ([(522, 1), same, same, same, same], broken(9, 522)),
-        ([(2064, 13), same, same, same, same], broken(10, 2064)),
-        ([(2096, 3), same, same, same, same], broken(12, 2096)),
-        ([(1024, 2), same, same, same, same], broken(14, 1024)),
+    let cases: [(&[(usize, u64)], Result<(), CheckError>); 31] = [
+        (&[], Ok(())),
+        (&[(512, 0)], broken(1, 512)),
+        (&[(513, 9)], broken(2, 513)),
+        (&[(514, 1 << 40)], broken(3, 514)),
+        (&[(515, 33)], broken(4, 515)),
+        (&[(0, 0)], broken(5, 0)),
+        (&[(9, 9)], broken(6, 9)),
+        (&[(2048, 11)], broken(7, 2048)),
+        (&[(576, 3)], broken(8, 576)),
+        (&[(522, 1)], broken(9, 522)),
+        (&[(2064, 13)], broken(10, 2064)),
+        (&[(2096, 3)], broken(12, 2096)),
+        (&[(1024, 2)], broken(14, 1024)),
+        (&[(1024, 1), (1028, 3 << 56)], broken(15, 1028)),
+        (&[(696, 1), (697, BLOCK), (698, BLOCK)], broken(16, 696)),
+        (&[(521, BLOCK)], broken(17, 521)),
+        (&[(1984, 1)], broken(18, 1984)),
+        (&[(1985, 1)], broken(18, 1985)),
+        (&[(2047, 1)], broken(18, 2047)),
         (
-            [(1024, 1), (1028, 3 << 56), same, same, same],
-            broken(15, 1028),
-        ),
-        (
-            [(696, 1), (697, BLOCK), (698, BLOCK), same, same],
-            broken(16, 696),
-        ),
-        ([(521, BLOCK), same, same, same, same], broken(17, 521)),
-        ([(1984, 1), same, same, same, same], broken(18, 1984)),
-        ([(1985, 1), same, same, same, same], broken(18, 1985)),
-        ([(2047, 1), same, same, same, same], broken(18, 2047)),
-        (
-            [(1986, 1), (1987, LAST_PAGE), (32256 + 255, 1), same, same],
+            &[(1986, 1), (1987, LAST_PAGE), (32256 + 255, 1)],
             broken(18, 32511),
         ),
         (
-            [(1986, 1), (1987, LAST_PAGE), (32256 + 256, 1), same, same],
-            Ok(()),
+            &[(1986, 1), (1987, LAST_PAGE), (32256 + 256, 1)],
+            broken(19, 1987),
         ),
-        ([(9, 1), (4608, 5), same, same, same], broken(29, 4608)),
-        ([(63, 1), (32767, 5), same, same, same], broken(29, 32767)),
-        ([(9, 18), (10, 1), (5120, 5), same, same], Ok(())),
-        ([(9, 1), (5120, 5), same, same, same], Ok(())),
+        (&[(2048, 0)], broken(19, 520)),
+        (&[(515, 2), (521, BLOCK)], broken(20, 521)),
+        (&[(2048, 3)], broken(21, 2184)),
+        (&[(9, 18), (10, 1), (5120, 5)], broken(21, 4608)),
+        (&[(9, 1), (4608, 5)], broken(29, 4608)),
+        (&[(63, 1), (32767, 5)], broken(29, 32767)),
+        (&[(9, 1), (5120, 5)], Ok(())),
+        (&[(2056, 2), (2136, 1), (2137, 97)], broken(30, 2137)),
+        (&[(2056, 2), (2136, 2), (2137, 98)], Ok(())),
         (
-            [(2056, 2), (2048, 3), (2136, 1), (2137, 97), same],
-            broken(30, 2137),
+            &[
+                (515, 2),
+                (521, BLOCK + 128),
+                (2048, 3),
+                (2184, 1),
+                (2186, 116),
+                (2224, 1),
+                (2225, 97),
+            ],
+            broken(30, 2186),
         ),
-        ([(2056, 2), (2048, 3), (2136, 2), (2137, 98), same], Ok(())),
-        ([(515, 2), (521, BLOCK), same, same, same], broken(30, 2058)),
-    ] {
+    ];
+    for (changes, told) in cases {
         assert_eq!(rt; check_changed(&rt, rt.alloc(), changes)?, told);
     }
     Ok(())
