@@ -21,7 +21,7 @@ use Rattle.heap_palloc.proofs.LiveBlocks.{SameHeap, live_blocks-same}
 use Rattle.pm_model.specs.Arrays.{chunk_pages, capacity_of, chunk_of, chunk_count, place_of}
 use Rattle.seg_array.specs.Growth.{Growth, next_pointer_at, next_chunk, chunk_block, punches, publishing_parts, growth_parts, MayGrow}
 use Rattle.seg_array.specs.Shown.{IsOutsidePages, KeepsArray, HasChunk, HasNoChunk, IsUngrown, IsGrown}
-use Rattle.seg_array.proofs.Sizes.{capacity_next, chunk_is, chunk_below}
+use Rattle.pm_model.proofs.ChunkSizes.{capacity_next, chunk_is, chunk_below}
 use Rattle.seg_array.proofs.Punches.{punches-out, punches-zero}
 
 module _ (base : List ℕ) (g : Growth) (may : MayGrow base g) where

@@ -9,7 +9,7 @@ use Rattle.pm_model.specs.Checks.{Check, check, Keeps}
 use Rattle.pm_model.proofs.Heap.{Holds}
 use Rattle.pm_model.proofs.Members.{below-Contains, Contains-below, Contains-here, Contains-there, Contains-cons, Contains-map, map-Contains}
 use Rattle.pm_model.specs.Arrays.{chunk_words, capacity_of, chunk_of, offset_of, chunk_count, chunk_pointer_at, is_chunk_pointer, array_rule, capacity, place_of}
-use Rattle.seg_array.proofs.Sizes.{capacity_next, chunk_below}
+use Rattle.pm_model.proofs.ChunkSizes.{capacity_next, chunk_below}
 
 -- a chunk's words lie in the image, and in one segment
 pub record NamesChunk (words : List ℕ) (count pointer : ℕ) : Type 0 where

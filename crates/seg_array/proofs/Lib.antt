@@ -5,7 +5,6 @@ pub mod Lengths
 pub mod Planning
 pub mod Punches
 pub mod Rereading
-pub mod Sizes
 pub mod SmallPages
 pub mod TestImage
 pub mod Whole

@@ -10,10 +10,12 @@ ghost use Rattle.pm_model.specs.Arrays.{chunk_count, chunk_pages};
 ghost use Rattle.seg_array.specs.Growth.{next_pointer_at, punches, publishing_parts};
 ghost use Rattle.seg_array.specs.Calls.{MayPlanGrowth, IsGrowthPlanned, IsChunkPlanned};
 
-use crate::chunks::{MAX_CHUNKS, chunk_pages, chunk_pointer, named};
 use crate::error::GrowError;
 use heap_palloc::{Heap, plan_allocate};
-use pm_model::{Action, Memory, PAGE_WORDS, Page, Place, Plan};
+use pm_model::{
+    Action, MAX_CHUNKS, Memory, PAGE_WORDS, Page, Place, Plan, chunk_pages, chunk_pointer,
+    named_place,
+};
 use std::alloc::Global;
 
 // No more actions than an allocation has beside two for each page that was given back.
@@ -86,7 +88,7 @@ fn push_chunk<M: Memory>(
 {
     let owner = chunk_pointer(header, count);
     if mem.load(owner) != 0 {
-        let chunk = named(mem, owner);
+        let chunk = named_place(mem, owner);
         return Ok((chunk.0 / PAGE_WORDS) as u16);
     }
     let words = PAGE_WORDS * chunk_pages(count);

@@ -10,11 +10,11 @@ mod error;
 mod grow;
 mod laws;
 
-pub use chunks::{MAX_CHUNKS, capacity, place_of};
+pub use chunks::{capacity, place_of};
 pub use error::GrowError;
 pub use grow::plan_grow;
 pub use laws::{array_law, growth_law};
-pub use pm_model::NoMemory;
+pub use pm_model::{MAX_CHUNKS, NoMemory};
 
 #[cfg(test)]
 mod tests;

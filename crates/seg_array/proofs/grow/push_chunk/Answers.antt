@@ -16,8 +16,8 @@ load-requires g c =
     let there = header_in_image (g.M.Memory.device c.args.mem.now) (g.met.M.Memory.whole c.args.mem.now) c.args.heap.now c.args.lane c.args.header.0 c.requires.may in
     omega (arith, there, c.chunk_pointer-owner.ensures, c.requires.not_full)
 
-pub named-chunk-requires-clause-pointer : goal.named-chunk-requires-clause-pointer
-named-chunk-requires-clause-pointer g c =
+pub named_place-chunk-requires-clause-pointer : goal.named_place-chunk-requires-clause-pointer
+named_place-chunk-requires-clause-pointer g c =
     let words : List ℕ = (g.M.Memory.device c.args.mem.now).cached in
     let owner = c.chunk_pointer-owner.ensures ∙ ap (chunk_pointer_at c.args.header.0) c.requires.count in
     let is = named (g.M.Memory.device c.args.mem.now) (g.met.M.Memory.whole c.args.mem.now) c.args.heap.now c.args.lane c.args.header.0 c.requires.may (omega (arith, c.requires.count, c.requires.not_full)) (λ e. c.if-load-ne0.true (c.load.ensures ∙ ap (λ (at : ℕ). get_or words at 0) owner ∙ e)) in
@@ -27,18 +27,18 @@ pub returns-then-load-ne0-clause-planned : goal.returns-then-load-ne0-clause-pla
 returns-then-load-ne0-clause-planned g c =
     let words : List ℕ = (g.M.Memory.device c.args.mem.now).cached in
     let owner = c.chunk_pointer-owner.ensures ∙ ap (chunk_pointer_at c.args.header.0) c.requires.count in
-    let place = c.named-chunk.ensures.place ∙ ap (λ (at : ℕ). place_in (get_or words at 0)) owner in
+    let place = c.named_place-chunk.ensures.place ∙ ap (λ (at : ℕ). place_in (get_or words at 0)) owner in
     subst (λ (at : ℕ). IsChunkPlanned words c.args.heap.now c.args.heap.now c.args.lane c.args.header.0 (at / 512) c.args.plan.now.left c.args.plan.now.left) (sym place)
     (owned_planned (g.M.Memory.device c.args.mem.now) (g.met.M.Memory.whole c.args.mem.now) c.args.heap.now c.args.lane c.args.header.0 c.requires.may (omega (arith, c.requires.count, c.requires.not_full)) (λ e. c.if-load-ne0.true (c.load.ensures ∙ ap (λ (at : ℕ). get_or words at 0) owner ∙ e)) c.args.plan.now.left)
 
 pub plan_allocate-requires-clause-most : goal.plan_allocate-requires-clause-most
-plan_allocate-requires-clause-most g c = let most = pages_most c.args.count in omega (arith, most, c.chunk_pages-words.ensures)
+plan_allocate-requires-clause-most g c = let most = pages_most c.args.count in omega (arith, most, c.chunk_pages-words.ensures.pages)
 
 pub append-requires : goal.append-requires
 append-requires g c =
     let words : List ℕ = (g.M.Memory.device c.args.mem.now).cached in
     let owner = c.chunk_pointer-owner.ensures ∙ ap (chunk_pointer_at c.args.header.0) c.requires.count in
-    let pages = ap (λ (n : ℕ). 512 * n) (c.chunk_pages-words.ensures ∙ ap chunk_pages c.requires.count) in
+    let pages = ap (λ (n : ℕ). 512 * n) (c.chunk_pages-words.ensures.pages ∙ ap chunk_pages c.requires.count) in
     let lt : get_or (g.M.Memory.device c.args.mem.now).cached c.args.header.0 0 < 12 = omega (arith, c.requires.count, c.requires.not_full) in
     let none = sym (ap (λ (at : ℕ). get_or words at 0) owner) ∙ sym c.load.ensures ∙ c.if-load-ne0.false in
     let made = allocated_here (g.M.Memory.device c.args.mem.now) (g.met.M.Memory.whole c.args.mem.now) c.args.heap.now c.args.lane c.args.header.0 c.requires.may lt none c.chunk_pointer-owner.result.0 (512 * c.chunk_pages-words.result) c.in_ok-allocation.chunk.words c.in_ok-allocation.chunk.first.0 c.plan_allocate.new.heap c.in_ok-allocation.allocation.left owner pages c.in_ok-allocation.ensures.allocated in
@@ -50,7 +50,7 @@ pub overflow_cast-result-2 : goal.overflow_cast-result-2
 overflow_cast-result-2 g c =
     let words : List ℕ = (g.M.Memory.device c.args.mem.now).cached in
     let owner = c.chunk_pointer-owner.ensures ∙ ap (chunk_pointer_at c.args.header.0) c.requires.count in
-    let pages = ap (λ (n : ℕ). 512 * n) (c.chunk_pages-words.ensures ∙ ap chunk_pages c.requires.count) in
+    let pages = ap (λ (n : ℕ). 512 * n) (c.chunk_pages-words.ensures.pages ∙ ap chunk_pages c.requires.count) in
     let lt : get_or (g.M.Memory.device c.args.mem.now).cached c.args.header.0 0 < 12 = omega (arith, c.requires.count, c.requires.not_full) in
     let none = sym (ap (λ (at : ℕ). get_or words at 0) owner) ∙ sym c.load.ensures ∙ c.if-load-ne0.false in
     let made = allocated_here (g.M.Memory.device c.args.mem.now) (g.met.M.Memory.whole c.args.mem.now) c.args.heap.now c.args.lane c.args.header.0 c.requires.may lt none c.chunk_pointer-owner.result.0 (512 * c.chunk_pages-words.result) c.in_ok-allocation.chunk.words c.in_ok-allocation.chunk.first.0 c.plan_allocate.new.heap c.in_ok-allocation.allocation.left owner pages c.in_ok-allocation.ensures.allocated in
@@ -62,7 +62,7 @@ pub returns-clause-planned : goal.returns-clause-planned
 returns-clause-planned g c =
     let words : List ℕ = (g.M.Memory.device c.args.mem.now).cached in
     let owner = c.chunk_pointer-owner.ensures ∙ ap (chunk_pointer_at c.args.header.0) c.requires.count in
-    let pages = ap (λ (n : ℕ). 512 * n) (c.chunk_pages-words.ensures ∙ ap chunk_pages c.requires.count) in
+    let pages = ap (λ (n : ℕ). 512 * n) (c.chunk_pages-words.ensures.pages ∙ ap chunk_pages c.requires.count) in
     let lt : get_or (g.M.Memory.device c.args.mem.now).cached c.args.header.0 0 < 12 = omega (arith, c.requires.count, c.requires.not_full) in
     let none = sym (ap (λ (at : ℕ). get_or words at 0) owner) ∙ sym c.load.ensures ∙ c.if-load-ne0.false in
     let made = allocated_here (g.M.Memory.device c.args.mem.now) (g.met.M.Memory.whole c.args.mem.now) c.args.heap.now c.args.lane c.args.header.0 c.requires.may lt none c.chunk_pointer-owner.result.0 (512 * c.chunk_pages-words.result) c.in_ok-allocation.chunk.words c.in_ok-allocation.chunk.first.0 c.plan_allocate.new.heap c.in_ok-allocation.allocation.left owner pages c.in_ok-allocation.ensures.allocated in
@@ -73,7 +73,7 @@ pub returns-clause-spare : goal.returns-clause-spare
 returns-clause-spare g c =
     let words : List ℕ = (g.M.Memory.device c.args.mem.now).cached in
     let owner = c.chunk_pointer-owner.ensures ∙ ap (chunk_pointer_at c.args.header.0) c.requires.count in
-    let pages = ap (λ (n : ℕ). 512 * n) (c.chunk_pages-words.ensures ∙ ap chunk_pages c.requires.count) in
+    let pages = ap (λ (n : ℕ). 512 * n) (c.chunk_pages-words.ensures.pages ∙ ap chunk_pages c.requires.count) in
     let lt : get_or (g.M.Memory.device c.args.mem.now).cached c.args.header.0 0 < 12 = omega (arith, c.requires.count, c.requires.not_full) in
     let none = sym (ap (λ (at : ℕ). get_or words at 0) owner) ∙ sym c.load.ensures ∙ c.if-load-ne0.false in
     let made = allocated_here (g.M.Memory.device c.args.mem.now) (g.met.M.Memory.whole c.args.mem.now) c.args.heap.now c.args.lane c.args.header.0 c.requires.may lt none c.chunk_pointer-owner.result.0 (512 * c.chunk_pages-words.result) c.in_ok-allocation.chunk.words c.in_ok-allocation.chunk.first.0 c.plan_allocate.new.heap c.in_ok-allocation.allocation.left owner pages c.in_ok-allocation.ensures.allocated in

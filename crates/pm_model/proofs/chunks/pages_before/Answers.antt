@@ -1,6 +1,6 @@
 use Rattle.std.proofs.Common.{arith}
-use Rattle.seg_array.proofs.Sizes.{shifted_capacity, even_capacity}
-use Rattle.seg_array.proofs.chunks.pages_before.Goals as goal
+use Rattle.pm_model.proofs.ChunkSizes.{shifted_capacity, even_capacity}
+use Rattle.pm_model.proofs.chunks.pages_before.Goals as goal
 
 pub returns-then-chunks-lt-LAST_DOUBLING : goal.returns-then-chunks-lt-LAST_DOUBLING
 returns-then-chunks-lt-LAST_DOUBLING c = shifted_capacity c.args.chunks c.if-chunks-lt-LAST_DOUBLING.true
