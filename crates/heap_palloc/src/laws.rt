@@ -34,6 +34,16 @@ pub fn new_slot_law()
 {}
 
 /// A law for proofs: an allocation, whichever way it goes.
+///
+/// What a cut can leave of it, and who completes it in how many stores:
+///
+/// | op | the mark | the owner's word | completed by | stores |
+/// |---|---|---|---|---|
+/// | 0 | without the block | 0 | nobody: nothing is allocated, though a free page may have become small, or a page that was given back be just free | 0 |
+/// | 1 | without the block | 0 | the mending of the lane: nothing is allocated | 1 |
+/// | 1 | with the block | 0 | the mending of the lane: nothing is allocated | 2 |
+/// | 1 | with the block | its pointer | the mending of the lane: the block is allocated | 1 |
+/// | 0 | with the block | its pointer | nobody: the block is allocated | 0 |
 pub fn allocation_law()
     ensures plan { (base : List ℕ) (choice : Choice) → MayMake base choice → IsPlan (length base) (choice_parts base choice) }
     ensures allocates { (base : List ℕ) (choice : Choice) → MayMake base choice →
@@ -42,6 +52,16 @@ pub fn allocation_law()
 {}
 
 /// A law for proofs: a freeing, of whichever block.
+///
+/// What a cut can leave of it, and who completes it in how many stores:
+///
+/// | op | the mark | the owner's word | completed by | stores |
+/// |---|---|---|---|---|
+/// | 0 | with the block | its pointer | nobody: nothing is freed | 0 |
+/// | 2 | with the block | its pointer | the mending of the lane | 3 |
+/// | 2 | with the block | 0 | the mending of the lane | 2 |
+/// | 2 | without the block | 0 | the mending of the lane | 1 |
+/// | 0 | without the block | 0 | nobody: the block is freed, though its small page may be left without a block | 0 |
 pub fn freeing_law()
     ensures plan { (base : List ℕ) (freed : Freed) → MayRelease base freed → IsPlan (length base) (freed_parts base freed) }
     ensures frees { (base : List ℕ) (freed : Freed) → MayRelease base freed →
