@@ -3,7 +3,7 @@ use Rattle.std.proofs.Common.{◌≡◌, ⊎_elim, ℕ, true, false, List, [], �
 use Rattle.std.specs.Prelude.{◌↔◌, All, IsTrue, Option, None, Some, option_map}
 use Rattle.std.proofs.lemmas.Bool.{cases_Bool}
 use Rattle.std.proofs.lemmas.List.Elements.{All-nil, All-cons, All-head, All-tail}
-use Rattle.pm_model.specs.Checks.{Check, Keeps, Numbered, Fault, first_failing, or_else, fault_of, first_fault}
+use Rattle.pm_model.specs.Checks.{Check, Keeps, Numbered, Fault, first_failing, or_else, first_fault}
 
 -- the check holds
 abbrev pub Holds : Check → Type 0

@@ -1,9 +1,9 @@
 -- The rules that every image keeps, also one that a power cut left. They are tried in the order of `entry_rules`; a rule may
 -- rely on those before it. Those of the heap and of lanes stand in `HeapRules`, and that of one array in `Arrays`.
-use Rattle.std.specs.Prelude.{ℕ, ◌+◌, ◌-◌, ◌/◌, ◌%◌, ◌^◌, min, Bool, not, ◌&&◌, ◌||◌, ◌==◌, nat_lt, nat_le, if◌then◌else◌, Option, List, [], ◌∷◌, ◌++◌, map, filter, slice_index}
+use Rattle.std.specs.Prelude.{ℕ, ◌+◌, ◌-◌, ◌/◌, ◌^◌, min, Bool, not, ◌&&◌, ◌||◌, ◌==◌, nat_lt, nat_le, if◌then◌else◌, Option, List, [], ◌∷◌, ◌++◌, map, filter, slice_index}
 use Rattle.std.specs.List.{flat_map, list_any}
-use Rattle.pm_model.specs.Fixed.{commit_word_at, descriptor_at, lane_at, last_at, magic_at, ready_at, state_at, table_count_at, table_slot_at, version_at}
-use Rattle.pm_model.specs.Places.{below, is_in_segment, is_null_or_pointer_to, is_pointer, is_pointer_to, packed_byte, page_at, page_count, place_in}
+use Rattle.pm_model.specs.Fixed.{commit_word_at, last_at, magic_at, ready_at, state_at, table_count_at, table_slot_at, version_at}
+use Rattle.pm_model.specs.Places.{below, is_in_segment, is_null_or_pointer_to, is_pointer, is_pointer_to, packed_byte, place_in}
 use Rattle.pm_model.specs.Records.{column_name_at, columns_at, created_header, ended_header, first_leaf_at, key_at, kind_at, new_leaf_at, next_leaf_at, split_leaf_at, table_name_at, table_words}
 use Rattle.pm_model.specs.Fresh.{magic_number}
 use Rattle.pm_model.specs.Blocks.{is_block_pointer}
