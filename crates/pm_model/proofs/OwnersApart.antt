@@ -92,7 +92,7 @@ none_any : {X : Type 0} (p : X → Bool) (xs : List X) → ((x : X) → Contains
 none_any p [] none = refl
 none_any p (x ∷ xs) none = let here = none x (Contains-here x xs) in rw here (none_any p xs (λ y there. none y (Contains-there x y xs there)))
 
-all_from : {X : Type 0} (P : X → Type 0) (xs : List X) → ((x : X) → Contains xs x → P x) → All P xs
+pub all_from : {X : Type 0} (P : X → Type 0) (xs : List X) → ((x : X) → Contains xs x → P x) → All P xs
 all_from P [] each = All-nil P
 all_from P (x ∷ xs) each = All-cons P x xs (each x (Contains-here x xs)) (all_from P xs (λ y there. each y (Contains-there x y xs there)))
 

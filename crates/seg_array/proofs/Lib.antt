@@ -2,6 +2,7 @@ pub mod Again
 pub mod Growing
 pub mod Headers
 pub mod Lengths
+pub mod Owned
 pub mod Planning
 pub mod Punches
 pub mod Rereading

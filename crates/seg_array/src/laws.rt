@@ -1,12 +1,16 @@
 // What an array reads, and what its growth keeps through each power cut, whatever is played beside it.
-ghost use Rattle.std.specs.Prelude.{◌≡◌, ◌≢◌, ◌⊎◌, ℕ, ◌+◌, ◌<◌, [], List, IsTrue, length, slice_index};
+ghost use Rattle.std.specs.Prelude.{◌≡◌, ◌≢◌, ◌⊎◌, ℕ, ◌+◌, ◌<◌, [], List, Contains, IsTrue, length, slice_index};
 ghost use Rattle.pm_model.specs.declared.action.Action.{Action};
 ghost use Rattle.pm_model.specs.Device.{Device, IsClean};
 ghost use Rattle.pm_model.specs.Plans.{Play, IsPlaying, IsPlan, IsCrashImageWithin, IsTakenBack, finished, footprint, plan_of};
 ghost use Rattle.pm_model.specs.Blocks.{live_blocks};
 ghost use Rattle.pm_model.specs.Checks.{Keeps};
+ghost use Rattle.pm_model.specs.EntryRules.{KeepsEntryRules};
+ghost use Rattle.pm_model.specs.Fixed.{lane_op_at};
+ghost use Rattle.pm_model.specs.Owners.{OwnersAreApart};
+ghost use Rattle.pm_model.specs.Tables.{array_headers, table_block, table_count};
 ghost use Rattle.heap_palloc.specs.Calls.{KeepsHeapRules};
-ghost use Rattle.heap_palloc.specs.Index.{HeapIndex};
+ghost use Rattle.heap_palloc.specs.Index.{HeapIndex, IsIndexOf};
 ghost use Rattle.heap_palloc.specs.Lane.{mended_lane};
 ghost use Rattle.heap_palloc.specs.Shown.{GainsOne};
 ghost use Rattle.pm_model.specs.Arrays.{array_rule, capacity, place_of};
@@ -21,6 +25,14 @@ pub fn array_law()
         Keeps old (array_rule header) → Keeps new (array_rule header) }
     ensures places { (old new : List ℕ) (header : ℕ) → length new ≡ length old → ((k : ℕ) → k < 13 → slice_index new (header + k) ≡ slice_index old (header + k)) →
         Keeps old (array_rule header) → (index : ℕ) → index < capacity old header → place_of new header index ≡ place_of old header index }
+{}
+
+/// The arrays of a published table may be planned to grow, whatever a power cut left half done: where the image keeps the
+/// rules that every image keeps, and its owner words are apart.
+pub fn table_array_law()
+    ensures { (words : List ℕ) (index : HeapIndex) (lane table header : ℕ) → KeepsEntryRules words → OwnersAreApart words →
+        table < table_count words → Contains (array_headers words (table_block words table)) header →
+        IsIndexOf words index → lane < 16 → slice_index words (lane_op_at lane) ≡ 0 → MayPlanGrowth words index lane header }
 {}
 
 /// A growth: the lane mended, each image has the capacity before, or the capacity after and new words of 0. After the last

@@ -3,6 +3,7 @@ pub mod Entering
 pub mod Extending
 pub mod Frames
 pub mod Lines
+pub mod OwnedSegments
 pub mod Places
 pub mod Planning
 pub mod Readying

@@ -7,6 +7,7 @@ mod error;
 mod extend;
 mod laws;
 mod object;
+mod owned;
 mod reading;
 mod segments;
 
@@ -15,6 +16,7 @@ pub use error::ExtendError;
 pub use extend::plan_extend;
 pub use laws::{begin_law, entry_law, extension_law, retire_law};
 pub use object::{plan_begin, push_entry, push_retire, retire_room};
+pub use owned::owned_segments_law;
 pub use pm_model::NoMemory;
 pub use reading::{entries, free_entries};
 
