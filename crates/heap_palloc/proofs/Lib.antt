@@ -13,6 +13,7 @@ pub mod GivenBack
 pub mod Indexed
 pub mod LiveBlocks
 pub mod Longest
+pub mod OwnedDests
 pub mod Owners
 pub mod PageCalls
 pub mod PageListSteps

@@ -1,23 +1,25 @@
 -- Where owner words are apart and the entry rules are kept: the blocks of tables, arrays and transaction objects.
-use Rattle.std.proofs.Common.{◌≡◌, ◌≢◌, ◌⊎◌, inl, inr, ⊎_elim, ℕ, zero, suc, ◌+◌, ◌-◌, ◌*◌, ◌^◌, ◌<◌, ◌≤◌, min, true, ◌&&◌, eqb, ltb, leb, List, [], ◌∷◌, ◌++◌, get_or, map, sym, ◌∙◌, ap, subst, arith}
+use Rattle.std.proofs.Common.{◌≡◌, ◌≢◌, ◌⊎◌, inl, inr, ⊎_elim, ℕ, zero, suc, ◌+◌, ◌-◌, ◌*◌, ◌^◌, ◌<◌, ◌≤◌, min, Bool, true, ◌&&◌, eqb, ltb, leb, List, [], ◌∷◌, ◌++◌, get_or, map, refl, sym, ◌∙◌, ap, subst, arith}
 use Rattle.std.specs.Prelude.{All, Contains}
 use Rattle.std.specs.List.{flat_map}
-use Rattle.std.proofs.lemmas.Bool.{cases_eq, cases_lt, eqb-true, and_parts, leb-true, lt-ltb, cond-true}
-use Rattle.std.proofs.lemmas.List.Elements.{All-contains, Contains-append_left}
+use Rattle.std.proofs.lemmas.Bool.{cases_Bool, cases_eq, cases_lt, eqb-true, ltb-true, and_parts, leb-true, lt-ltb, cond-true}
+use Rattle.std.proofs.lemmas.List.Elements.{All-contains, Contains-append_left, Contains-append_cases}
 use Rattle.pm_model.specs.Fixed.{commit_word_at, first_segment_at, last_at, ready_at, state_at, table_slot_at}
 use Rattle.pm_model.specs.Pointer.{pointer_word}
 use Rattle.pm_model.specs.Places.{below, place_in, is_pointer, is_pointer_to, is_null_or_pointer_to, is_in_segment}
 use Rattle.pm_model.specs.Records.{codes_header, column_at, columns_at, created_header, dictionary_header, ended_header, new_leaf_at, table_words}
-use Rattle.pm_model.specs.Arrays.{array_rule, chunk_count, chunk_pointer_at, chunk_words}
-use Rattle.pm_model.specs.Blocks.{Block, block_words}
+use Rattle.pm_model.specs.Arrays.{array_rule, capacity, chunk_count, chunk_of, chunk_pointer_at, chunk_words, is_chunk_pointer, place_of}
+use Rattle.pm_model.specs.Blocks.{Block, block_words, live_blocks}
+use Rattle.pm_model.specs.Trees.{dictionary_length}
 use Rattle.pm_model.specs.HeapRules.{reserved_rule, descriptor_rule}
 use Rattle.pm_model.specs.Checks.{Check, check, Keeps}
-use Rattle.pm_model.specs.EntryRules.{is_table_pointer, is_table_slot, table_count_rule, table_slot_rule, arrays_rule, is_segment_pointer, object_rule, objects_rule}
-use Rattle.pm_model.specs.Tables.{table_count, table_block, table_blocks, columns_of, all_columns, column_headers, array_headers}
+use Rattle.pm_model.specs.EntryRules.{KeepsEntryRules, is_table_pointer, is_table_slot, table_count_rule, table_slot_rule, arrays_rule, is_segment_pointer, object_rule, objects_rule}
+use Rattle.pm_model.specs.Tables.{table_count, table_block, table_blocks, columns_of, all_columns, column_headers, array_headers, is_text}
 use Rattle.pm_model.specs.Objects.{commit_word, ready_count, segment_pointer_at, segment_of, pointer_after}
-use Rattle.pm_model.specs.Owners.{names_one, chunk_owner, table_owner, segment_owner, OwnersAreApart}
+use Rattle.pm_model.specs.Owners.{names_one, chunk_owner, table_owner, segment_owner, OwnersAreApart, next_chunk_pointers, next_table_slots, next_text_slots, unfinished_slots, lane_targets}
 use Rattle.pm_model.proofs.Faults.{Holds}
 use Rattle.pm_model.proofs.Members.{below-Contains, Contains-below, Contains-here, Contains-there, Contains-cons, Contains-nil, Contains-flat_map, flat_map-Contains, Contains-map, map-Contains}
+use Rattle.pm_model.proofs.ChunkSizes.{capacity_next, chunk_below}
 use Rattle.pm_model.proofs.Heap.{live_blocks_apart}
 use Rattle.pm_model.proofs.OwnersApart.{LiveAt, live_behind, table_fits, chunk_size, all_from, named, table_in, block_in, object_in, table_before_own, table_before_table, table_before_object, object_before_object, chunk_in, segment_in, segment_before, header_in, live_owner, differ}
 
@@ -289,3 +291,138 @@ module _ (words : List ℕ) (reserved : Keeps words reserved_rule) (known : Keep
         (λ same. absurd (differs (sym a ∙ ap (λ (block : Block). block.first) same ∙ c)))
         (λ shared. ⊎_elim (λ before. inl (omega (arith, before, a, b, c, last, size))) (λ after. inr (omega (arith, after, a, c, d, first))) shared)
         (live_blocks_apart words reserved known here.live.block chunk_at.block here.live.live chunk_at.live)
+
+-- ── the words into which a lane may be at work ──
+
+-- the pointer to a published chunk names one
+pub chunk_named : (words : List ℕ) (header chunk : ℕ) → Keeps words (array_rule header) → chunk < chunk_count words header → (chunk < 12) × (get_or words (chunk_pointer_at header chunk) 0 ≢ 0)
+unfolding array_rule
+chunk_named words header chunk keeps lt =
+    let count = chunk_count words header in
+    let pointer = get_or words (chunk_pointer_at header chunk) 0 in
+    let pointer_check = λ (k : ℕ). check (chunk_pointer_at header k) (is_chunk_pointer words count k (get_or words (chunk_pointer_at header k) 0)) in
+    let few = leb-true count 12 (All-contains Holds (array_rule header words) (check header (leb count 12)) keeps.checks (Contains-here (check header (leb count 12)) (map pointer_check (below 12)))) in
+    let low : chunk < 12 = omega (arith, lt, few) in
+    let holds : is_chunk_pointer words count chunk pointer ≡ true = All-contains Holds (array_rule header words) (pointer_check chunk) keeps.checks
+    (Contains-there (check header (leb count 12)) (pointer_check chunk) (map pointer_check (below 12)) (map-Contains pointer_check (below 12) chunk (below-Contains 12 chunk low))) in
+    let pointed : is_pointer_to words (chunk_words chunk) pointer ≡ true = sym (cond-true (ltb chunk count) (is_pointer_to words (chunk_words chunk) pointer) _ (lt-ltb chunk count lt)) ∙ holds in
+    (low, pointer_some words pointer (and_parts (is_pointer words pointer) (is_in_segment (place_in pointer) (chunk_words chunk)) pointed).0)
+
+-- how many chunks are published
+chunks_few : (words : List ℕ) (header : ℕ) → Keeps words (array_rule header) → chunk_count words header ≤ 12
+unfolding array_rule
+chunks_few words header keeps = leb-true (chunk_count words header) 12
+    (All-contains Holds (array_rule header words) (check header (leb (chunk_count words header) 12)) keeps.checks
+    (Contains-here (check header (leb (chunk_count words header) 12))
+    (map (λ k. check (chunk_pointer_at header k) (is_chunk_pointer words (chunk_count words header) k (get_or words (chunk_pointer_at header k) 0))) (below 12))))
+
+-- a column's dictionary is one of the arrays of its table
+dictionary_in : (words : List ℕ) (column : ℕ) → (c : IsColumnOf words column) → Contains (array_headers words (table_block words c.table)) (dictionary_header column)
+dictionary_in words column c =
+    let block = table_block words c.table in
+    let columns = columns_of words block in
+    let count = get_or words (columns_at block) 0 in
+    let among : Contains columns column = subst (λ (k : ℕ). Contains columns k) (sym c.is) (map-Contains (column_at block) (below count) c.number (below-Contains count c.number c.within)) in
+    Contains-there (created_header block) (dictionary_header column) (ended_header block ∷ flat_map column_headers columns)
+    (Contains-there (ended_header block) (dictionary_header column) (flat_map column_headers columns)
+    (flat_map-Contains column_headers columns column (dictionary_header column) among
+    (Contains-there (codes_header column) (dictionary_header column) (dictionary_header column ∷ []) (Contains-here (dictionary_header column) []))))
+
+-- a place of the fixed pages outside the lanes, or one in a live block
+pub data IsOwnersPlace (words : List ℕ) (at : ℕ) : Type 0 where
+  fixed : 512 ≤ at → at < 2048 → (at < 576) ⊎ (704 ≤ at) → IsOwnersPlace words at
+  inside : (block : Block) → Contains (live_blocks words) block → block.first ≤ at → at < block.first + block.words → IsOwnersPlace words at
+
+module _ (words : List ℕ) (entry : KeepsEntryRules words) (apart : OwnersAreApart words) where
+  in_live : (place size at : ℕ) → LiveAt words place size → place ≤ at → at < place + size → IsOwnersPlace words at
+  in_live place size at live low high = let first = live.first in let count = live.size in inside live.block live.live (omega (arith, first, low)) (omega (arith, first, count, high))
+
+  table_block_live : (table : ℕ) → table < table_count words → TableBlock words entry.reserved entry.descriptors entry.table_count entry.table_slots apart table
+  table_block_live table lt = table_live words entry.reserved entry.descriptors entry.table_count entry.table_slots apart table lt
+
+  slot_place : (at : ℕ) → Contains (next_table_slots words) at → IsOwnersPlace words at
+  slot_place at is = ⊎_elim
+      (λ hit. let few = ltb-true (table_count words) 32 hit in
+      ⊎_elim (λ (here : table_slot_at (table_count words) ≡ at). fixed (omega (arith, here)) (omega (arith, here, few)) (inl (omega (arith, here, few))))
+      (λ none. absurd (Contains-nil at none)) (Contains-cons (table_slot_at (table_count words)) at [] (rw hit at is)))
+      (λ miss. absurd (Contains-nil at (rw miss at is))) (cases_Bool (ltb (table_count words) 32))
+
+  text_place : (column at : ℕ) → Contains (all_columns words) column → Contains (next_text_slots words column) at → IsOwnersPlace words at
+  text_place column at among is = ⊎_elim found (λ miss. absurd (Contains-nil at (rw miss at is))) (cases_Bool test)
+    where
+      header : ℕ
+      header = dictionary_header column
+
+      index : ℕ
+      index = dictionary_length words column
+
+      test : Bool
+      test = is_text words column && ltb index (capacity words header)
+
+      found : test ≡ true → IsOwnersPlace words at
+      found hit =
+          let c = column_of words column among in
+          let lt = ltb-true index (capacity words header) (and_parts (is_text words column) (ltb index (capacity words header)) hit).1 in
+          let headers : Contains (array_headers words (table_block words c.table)) header = dictionary_in words column c in
+          let rule = one_array words c.table header entry.arrays c.published headers in
+          let few = chunks_few words header rule in
+          let chunk = chunk_below index (chunk_count words header) few lt in
+          let named = chunk_named words header (chunk_of index) rule chunk.0 in
+          let live = chunk_live words entry.reserved entry.descriptors entry.table_count entry.table_slots apart c.table header c.published headers (chunk_of index) (omega (arith, chunk.0)) named.0 named.1 in
+          let next = capacity_next (chunk_of index) in
+          let low = chunk.1 in let high = chunk.2 in
+          ⊎_elim (λ (here : place_of words header index ≡ at). in_live (place_in (get_or words (chunk_pointer_at header (chunk_of index)) 0)) (chunk_words (chunk_of index)) at live (omega (arith, here)) (omega (arith, here, low, high, next)))
+          (λ none. absurd (Contains-nil at none)) (Contains-cons (place_of words header index) at [] (rw hit at is))
+
+  chunk_place : (table header at : ℕ) → table < table_count words → Contains (array_headers words (table_block words table)) header → Contains (next_chunk_pointers words header) at → IsOwnersPlace words at
+  chunk_place table header at lt among is =
+      let block = table_block_live table lt in
+      let within = header_inside words entry.reserved entry.descriptors entry.table_count entry.table_slots apart table header lt among in
+      let low = within.0 in let high = within.1 in let holds = block.holds in
+      ⊎_elim
+      (λ hit. let few = ltb-true (chunk_count words header) 12 hit in
+      ⊎_elim (λ (here : chunk_pointer_at header (chunk_count words header) ≡ at). in_live (table_block words table) block.size at block.live (omega (arith, here, low)) (omega (arith, here, few, high, holds)))
+      (λ none. absurd (Contains-nil at none)) (Contains-cons (chunk_pointer_at header (chunk_count words header)) at [] (rw hit at is)))
+      (λ miss. absurd (Contains-nil at (rw miss at is))) (cases_Bool (ltb (chunk_count words header) 12))
+
+  leaf_place : (column at : ℕ) → Contains (all_columns words) column → new_leaf_at column ≡ at → IsOwnersPlace words at
+  leaf_place column at among here =
+      let c = column_of words column among in
+      let block = table_block_live c.table c.published in
+      let is = c.is in let lt = c.within in let holds = block.holds in
+      in_live (table_block words c.table) block.size at block.live (omega (arith, here, is)) (omega (arith, here, is, lt, holds))
+
+  segment_place : (object at : ℕ) → object < 16 → pointer_after words object ≡ at → IsOwnersPlace words at
+  segment_place object at lt here = after (ready_count words object) refl here
+    where
+      after : (count : ℕ) → count ≡ ready_count words object → segment_pointer_at words object count ≡ at → IsOwnersPlace words at
+      after zero e is = fixed (omega (arith, is)) (omega (arith, is, lt)) (inr (omega (arith, is)))
+      after (suc segment) e is =
+          let rule = one_object words object entry.objects lt in
+          let some = ready_named words object segment rule (omega (arith, e)) in
+          in_live (segment_of words object segment) 256 at
+          (segment_live words entry.reserved entry.descriptors entry.table_count entry.table_slots apart object lt rule segment (omega (arith, e)) some) (omega (arith, is)) (omega (arith, is))
+
+  -- a lane's owner word is one of these
+  pub target_place : (at : ℕ) → Contains (lane_targets words) at → IsOwnersPlace words at
+  target_place at is =
+      let slots = unfinished_slots words in
+      let tables = below (table_count words) in
+      let pointers = flat_map (λ table. flat_map (next_chunk_pointers words) (array_headers words (table_block words table))) tables in
+      let leaves = map new_leaf_at (all_columns words) in
+      let segments = map (pointer_after words) (below 16) in
+      ⊎_elim
+      (λ early. ⊎_elim
+      (λ first. ⊎_elim
+      (λ slot. ⊎_elim (slot_place at)
+      (λ text. let (column, among, here) = Contains-flat_map (next_text_slots words) (all_columns words) at text in text_place column at among here)
+      (Contains-append_cases (next_table_slots words) (flat_map (next_text_slots words) (all_columns words)) at slot))
+      (λ pointer.
+      let (table, published, here) = Contains-flat_map (λ t. flat_map (next_chunk_pointers words) (array_headers words (table_block words t))) tables at pointer in
+      let (header, among, last) = Contains-flat_map (next_chunk_pointers words) (array_headers words (table_block words table)) at here in
+      chunk_place table header at (Contains-below (table_count words) table published) among last)
+      (Contains-append_cases slots pointers at first))
+      (λ leaf. let (column, among, here) = Contains-map new_leaf_at (all_columns words) at leaf in leaf_place column at among here)
+      (Contains-append_cases (slots ++ pointers) leaves at early))
+      (λ segment. let (object, among, here) = Contains-map (pointer_after words) (below 16) at segment in segment_place object at (Contains-below 16 object among) here)
+      (Contains-append_cases (slots ++ pointers ++ leaves) segments at is)
