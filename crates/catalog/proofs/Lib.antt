@@ -2,9 +2,14 @@ pub mod Blocks
 pub mod Creating
 pub mod Filled
 pub mod Filling
+pub mod LaneOps
 pub mod Lengths
 pub mod Lists
+pub mod Named
 pub mod Names
+pub mod OldBlocks
 pub mod Planning
+pub mod Published
+pub mod ReadBack
 pub mod Surviving
 pub mod Tested
