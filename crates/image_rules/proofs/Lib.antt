@@ -2,6 +2,7 @@ pub mod ArrayChecks
 pub mod BlockSizes
 pub mod BuiltOwners
 pub mod Capacities
+pub mod ChunkSizes
 pub mod DistinctChecks
 pub mod EntryChecks
 pub mod Faults
@@ -16,4 +17,6 @@ pub mod OwnedChecks
 pub mod OwnerChecks
 pub mod OwnerWalk
 pub mod RestChecks
+pub mod StampChecks
+pub mod TableArrays
 pub mod TableChecks

@@ -8,14 +8,16 @@ use crate::error::CheckError;
 use image_rules::{
     arrays_fault, bitmap_fault, closed_fault, descriptor_fault, distinct_name_fault, entries_fault,
     given_back_fault, idle_fault, lane_fault, last_fault, magic_fault, name_fault, next_slot_fault,
-    objects_fault, owned_fault, owner_fault, reserved_fault, single_owner_fault, table_count_fault,
-    table_slot_fault, version_fault,
+    objects_fault, owned_fault, owner_fault, reserved_fault, single_owner_fault, stamp_fault,
+    table_count_fault, table_slot_fault, version_fault,
 };
 use std::alloc::Global;
 
 /// Tries the rules of an image at rest, in the order of their numbers: those of every image that a power cut can leave
 /// (1 to 10, 12, 14 and 15), and then that nothing is half done (16 to 18), that owner words and live blocks go together one
-/// to one (19 to 21), that pages which were given back are 0 (29) and names differ (30). An error names the first rule that the words break, and the place where they do.
+/// to one (19 to 21), that stamps are those of commits and stand below their table's bound (27), that pages which were given
+/// back are 0 (29) and that names differ (30). An error names the first rule that the words break, and the place where they
+/// do. Time and memory as for the words and, at n owner words, n log n steps.
 pub fn check(alloc: Global, words: &[u64]) -> Result<(), CheckError>
     requires segments { length words.now % 32768 ≡ 0 }
     requires one_or_more { 32768 ≤ length words.now }
@@ -43,6 +45,7 @@ pub fn check(alloc: Global, words: &[u64]) -> Result<(), CheckError>
     refuse(19, owner_fault(alloc, words)?)?;
     refuse(20, single_owner_fault(alloc, words)?)?;
     refuse(21, owned_fault(alloc, words)?)?;
+    refuse(27, stamp_fault(words))?;
     refuse(29, given_back_fault(words))?;
     refuse(30, distinct_name_fault(words))
 }

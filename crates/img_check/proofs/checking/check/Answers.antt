@@ -49,3 +49,12 @@ owned_fault-requires-clause-slots c = kept_rule c.args.words.now table_slot_rule
 
 pub owned_fault-requires-clause-objects : goal.owned_fault-requires-clause-objects
 owned_fault-requires-clause-objects c = kept_rule c.args.words.now objects_rule c.objects_fault.result c.objects_fault.ensures c.in_ok-refuse-12.ensures.kept
+
+pub stamp_fault-requires-clause-tables : goal.stamp_fault-requires-clause-tables
+stamp_fault-requires-clause-tables c = kept_rule c.args.words.now table_count_rule c.table_count_fault.result c.table_count_fault.ensures c.in_ok-refuse-4.ensures.kept
+
+pub stamp_fault-requires-clause-slots : goal.stamp_fault-requires-clause-slots
+stamp_fault-requires-clause-slots c = kept_rule c.args.words.now table_slot_rule c.table_slot_fault.result c.table_slot_fault.ensures c.in_ok-refuse-9.ensures.kept
+
+pub stamp_fault-requires-clause-arrays : goal.stamp_fault-requires-clause-arrays
+stamp_fault-requires-clause-arrays c = kept_rule c.args.words.now arrays_rule c.arrays_fault.result c.arrays_fault.ensures c.in_ok-refuse-10.ensures.kept

@@ -1,0 +1,199 @@
+// The rule of stamps.
+ghost use Rattle.std.specs.Prelude.{◌≡◌, ℕ, ◌+◌, ◌%◌, ◌^◌, ◌<◌, ◌≤◌, max, Option, None, Some, IfSome, option_map, length, slice_index, nat_le};
+ghost use Rattle.std.specs.List.{flat_map, list_all, range_with_len};
+ghost use Rattle.pm_model.specs.Arrays.{array_rule, capacity as capacity_at, capacity_of, chunk_words as words_of_chunk};
+ghost use Rattle.pm_model.specs.Records.{created_header as created_at, ended_header as ended_at, high_at};
+ghost use Rattle.pm_model.specs.Checks.{Keeps, first_failing};
+ghost use Rattle.pm_model.specs.EntryRules.{arrays_rule, table_count_rule, table_slot_rule};
+ghost use Rattle.pm_model.specs.SoundRules.{is_commit as commit_holds, is_created as created_holds, is_ended as ended_holds, row_checks, row_headers, stamp_checks, stamp_rule};
+ghost use Rattle.image_rules.specs.Parts.{IsTableBlock};
+ghost use Rattle.image_rules.specs.Stamps.{chunk_place, place_checks, stamp_of, table_arrays_rule};
+
+use crate::array_rules::capacity;
+use crate::chunks::{chunk_capacity, chunk_words};
+use crate::pointers::pointed_words;
+use crate::table_rules::{columns_of, published_tables, table_block};
+use pm_model::{
+    Place, chunk_pointer, codes_header, column, created_header, ended_header, high, last_commit,
+};
+
+// What a row that is dead has for its creator.
+const NO_COMMIT: u64 = u64::MAX;
+
+/// The first word that breaks the rule of stamps: a table's bound on its rows with stamps, where an array has fewer rows,
+/// or a stamp, row by row, that of the row's creation before that of its end. Time as for the rows of each table's two
+/// arrays of stamps.
+pub fn stamp_fault(words: &[u64]) -> Option<u32>
+    requires segments { length words.now % 32768 ≡ 0 }
+    requires one_or_more { 32768 ≤ length words.now }
+    requires most { length words.now ≤ 4194304 }
+    requires tables { Keeps words.now table_count_rule }
+    requires slots { Keeps words.now table_slot_rule }
+    requires arrays { Keeps words.now arrays_rule }
+    ensures { result ≡ first_failing (stamp_rule words.now) }
+{
+    for table in 0..published_tables(words) {
+        let found = table_stamp_fault(words, table_block(words, table));
+        if found.is_some() {
+            return found;
+        }
+    }
+    None
+}
+
+fn table_stamp_fault(words: &[u64], block: Place) -> Option<u32>
+    requires segments { length words.now % 32768 ≡ 0 }
+    requires one_or_more { 32768 ≤ length words.now }
+    requires most { length words.now ≤ 4194304 }
+    requires block { IsTableBlock words.now block.0 }
+    requires arrays { Keeps words.now (table_arrays_rule block.0) }
+    ensures { result ≡ first_failing (stamp_checks words.now block.0) }
+{
+    if !is_bounded(words, block) {
+        return Some(high(block).0);
+    }
+    let created = words[created_header(block).0 as usize] as u32;
+    let ended = words[ended_header(block).0 as usize] as u32;
+    for chunk in 0..created.max(ended) {
+        let found = chunk_stamp_fault(words, block, chunk);
+        if found.is_some() {
+            return found;
+        }
+    }
+    None
+}
+
+// Whether each array with a word for each row has all rows below the table's bound.
+fn is_bounded(words: &[u64], block: Place) -> bool
+    requires most { length words.now ≤ 4194304 }
+    requires block { IsTableBlock words.now block.0 }
+    requires arrays { Keeps words.now (table_arrays_rule block.0) }
+    ensures { result ≡ list_all (λ header. nat_le (slice_index words.now (high_at block.0)) (capacity_at words.now header)) (row_headers words.now block.0) }
+{
+    let bound = words[high(block).0 as usize];
+    if bound > u64::from(capacity(words, created_header(block))) {
+        return false;
+    }
+    if bound > u64::from(capacity(words, ended_header(block))) {
+        return false;
+    }
+    for number in 0..columns_of(words, block) {
+        if bound > u64::from(capacity(words, codes_header(column(block, number)))) {
+            return false;
+        }
+    }
+    true
+}
+
+// Of the rows whose stamps stand in a chunk of either array, the first stamp that breaks the rule.
+fn chunk_stamp_fault(words: &[u64], block: Place, chunk: u32) -> Option<u32>
+    requires segments { length words.now % 32768 ≡ 0 }
+    requires one_or_more { 32768 ≤ length words.now }
+    requires most { length words.now ≤ 4194304 }
+    requires block { IsTableBlock words.now block.0 }
+    requires arrays { Keeps words.now (table_arrays_rule block.0) }
+    requires bounded { slice_index words.now (high_at block.0) ≤ capacity_at words.now (created_at block.0) }
+    requires chunk { chunk < 12 }
+    ensures { result ≡ first_failing (flat_map (row_checks words.now block.0) (range_with_len (capacity_of chunk) (words_of_chunk chunk))) }
+{
+    let created = published_chunk(words, created_header(block), chunk);
+    let ended = published_chunk(words, ended_header(block), chunk);
+    let bound = words[high(block).0 as usize];
+    let first = chunk_capacity(chunk);
+    let rows = chunk_words(chunk);
+    for offset in 0..rows {
+        let stamped = u64::from(first + offset) < bound;
+        let found = row_fault(
+            words,
+            stamped,
+            place_in_chunk(created, offset),
+            place_in_chunk(ended, offset),
+        );
+        if found.is_some() {
+            return found;
+        }
+    }
+    None
+}
+
+// Where a chunk of an array begins, if it is published.
+fn published_chunk(words: &[u64], header: Place, chunk: u32) -> Option<u32>
+    requires segments { length words.now % 32768 ≡ 0 }
+    requires most { length words.now ≤ 4194304 }
+    requires within { header.0 + 16 ≤ length words.now }
+    requires rule { Keeps words.now (array_rule header.0) }
+    requires chunk { chunk < 12 }
+    ensures place { result ≡ chunk_place words.now header.0 chunk }
+    ensures within { IfSome result (λ first. first + words_of_chunk chunk ≤ length words.now) }
+{
+    if u64::from(chunk) >= words[header.0 as usize] {
+        return None;
+    }
+    let pointer = words[chunk_pointer(header, chunk).0 as usize];
+    pointed_words(words, pointer, chunk_words(chunk))
+}
+
+// The place of a word of a published chunk.
+fn place_in_chunk(chunk: Option<u32>, offset: u32) -> Option<u32>
+    requires { IfSome chunk (λ first. first + offset < 2 ^ 32) }
+    ensures { result ≡ option_map (λ first. first + offset) chunk }
+{
+    match chunk {
+        Some(first) => Some(first + offset),
+        None => None,
+    }
+}
+
+// The first of a row's two stamps that breaks the rule, by the places of those that are published.
+fn row_fault(words: &[u64], stamped: bool, created: Option<u32>, ended: Option<u32>) -> Option<u32>
+    requires one_or_more { 32768 ≤ length words.now }
+    requires most { length words.now ≤ 4194304 }
+    requires created { IfSome created (λ place. place < length words.now) }
+    requires ended { IfSome ended (λ place. place < length words.now) }
+    ensures { result ≡ first_failing (place_checks words.now stamped created ended) }
+{
+    let creator = stamp_at(words, created);
+    if !is_created(words, stamped, creator) {
+        return created;
+    }
+    if !is_ended(words, stamped, creator, stamp_at(words, ended)) {
+        return ended;
+    }
+    None
+}
+
+// The stamp at a place, and 0 where none is published.
+fn stamp_at(words: &[u64], at: Option<u32>) -> u64
+    requires { IfSome at (λ place. place < length words.now) }
+    ensures { result ≡ stamp_of words.now at }
+{
+    match at {
+        Some(place) => words[place as usize],
+        None => 0,
+    }
+}
+
+// Whether a row can have this creator: none, and below the bound also that it is dead or a commit.
+fn is_created(words: &[u64], stamped: bool, created: u64) -> bool
+    requires { 32768 ≤ length words.now }
+    ensures { result ≡ created_holds words.now stamped created }
+{
+    created == 0 || (stamped && (created == NO_COMMIT || is_commit(words, created)))
+}
+
+// Whether a row can have been ended so: not at all, and below the bound also by a commit that its creator isn't after.
+fn is_ended(words: &[u64], stamped: bool, created: u64, ended: u64) -> bool
+    requires { 32768 ≤ length words.now }
+    ensures { result ≡ ended_holds words.now stamped created ended }
+{
+    ended == 0
+        || (stamped && is_commit(words, created) && is_commit(words, ended) && created <= ended)
+}
+
+// Whether a stamp is the number of one of the commits so far.
+fn is_commit(words: &[u64], stamp: u64) -> bool
+    requires { 32768 ≤ length words.now }
+    ensures { result ≡ commit_holds words.now stamp }
+{
+    1 <= stamp && stamp <= words[last_commit().0 as usize]
+}
