@@ -2,13 +2,16 @@ pub mod Clears
 pub mod Entering
 pub mod Extending
 pub mod Frames
+pub mod Keeping
 pub mod Lines
+pub mod Parts
 pub mod Places
 pub mod Planning
 pub mod Readying
 pub mod Retire
 pub mod Rule
 pub mod Runs
+pub mod Spared
 pub mod Taken
 pub mod TestObject
 pub mod Walk

@@ -13,7 +13,7 @@ mod segments;
 pub use entry::{Entry, EntryKind, EntryList};
 pub use error::ExtendError;
 pub use extend::plan_extend;
-pub use laws::{begin_law, entry_law, extension_law, retire_law};
+pub use laws::{begin_law, entry_law, extension_law, object_law, retire_law};
 pub use object::{plan_begin, push_entry, push_retire, retire_room};
 pub use pm_model::NoMemory;
 pub use reading::{entries, free_entries};
