@@ -137,7 +137,7 @@ module _ (base : List ℕ) (object value : ℕ) (has : HasObject base object) wh
     pointers = λ k le. get_or-set_other base (state_at object) (segment_pointer_at base object k) value 0 (pointer_not_low base object has k (state_at object) le (omega arith));
   }
 
-  state_words : words_at (set base (state_at object) value) (entry_places base object) ≡ words_at base (entry_places base object)
+  pub state_words : words_at (set base (state_at object) value) (entry_places base object) ≡ words_at base (entry_places base object)
   state_words = words_at-same base (set base (state_at object) value) (entry_places base object)
       (λ k lt. get_or-set_other base (state_at object) (get_or (entry_places base object) k 0) value 0 (entry_not_fixed base object has k (state_at object) lt (let number = has.number in omega (arith, number)) (inl (omega arith))))
 

@@ -13,6 +13,7 @@ pub mod Rule
 pub mod Runs
 pub mod Spared
 pub mod Taken
+pub mod TestEntries
 pub mod TestObject
 pub mod Walk
 pub mod Whole

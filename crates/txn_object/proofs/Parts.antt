@@ -89,16 +89,19 @@ module _ (base : List ℕ) (object nth : ℕ) (entry : Entry) (may : MayEnter ba
   pub entry_places_stay : entry_places entered object ≡ entry_places base object
   entry_places_stay = frame_places base entered object (entry_frame base object nth entry may)
 
+  pub entry_count : length (objects.entries entered object) ≡ nth + 1
+  entry_count =
+      let now = length-map (objects.entries entered object) entry_of in
+      let was = length-map (objects.entries base object) entry_of in
+      let one = ap (λ (l : List Entry). length l) (entry_shows base object nth entry may (record { state = get_or base (state_at object) 0; commit_word = get_or base (commit_word_at object) 0; entries = entries_in base object }) (record { state = refl; commit_word = refl; entries = refl })).entries in
+      let sum = length-append (entries_in base object) (entry ∷ []) in
+      let count = may.count in omega (arith, now, was, one, sum, count)
+
   -- so the next entry may be the next one
   pub entry_next : (other : Entry) → nth + 1 < length (entry_places base object) → other.table < 2 ^ 24 → other.row < 2 ^ 32 → MayEnter entered object (nth + 1) other
   entry_next other lt table row = record {
     is_object = entry_object base object nth entry may;
-    count =
-        let now = length-map (objects.entries entered object) entry_of in
-        let was = length-map (objects.entries base object) entry_of in
-        let one = ap (λ (l : List Entry). length l) (entry_shows base object nth entry may (record { state = get_or base (state_at object) 0; commit_word = get_or base (commit_word_at object) 0; entries = entries_in base object }) (record { state = refl; commit_word = refl; entries = refl })).entries in
-        let sum = length-append (entries_in base object) (entry ∷ []) in
-        let count = may.count in omega (arith, now, was, one, sum, count);
+    count = entry_count;
     room = subst (λ (l : List ℕ). nth + 1 < length l) (sym entry_places_stay) lt;
     packed = entry_packed base object nth entry may;
     table = table;

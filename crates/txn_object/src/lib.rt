@@ -20,3 +20,5 @@ pub use reading::{entries, free_entries};
 
 #[cfg(test)]
 mod tests;
+#[cfg(test)]
+mod transaction_tests;
