@@ -1,3 +1,5 @@
+pub mod Commits
+pub mod CommitsWorked
 pub mod Formatted
 pub mod FormattedImage
 pub mod LaneMending

@@ -1,3 +1,4 @@
+pub mod CommitLaws
 pub mod ImageLaws
 pub mod LaneRules
 pub mod LogicalState

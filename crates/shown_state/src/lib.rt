@@ -5,6 +5,8 @@
 //! - `specs/Recoverable` has the images that opening mends without changing what they show.
 #![tactic(auto)]
 
+mod commit_laws;
 mod laws;
 
+pub use commit_laws::{commits_law, worked_images_law};
 pub use laws::{formatted_law, opening_law, owner_law, walk_law};

@@ -19,7 +19,7 @@ use Rattle.txn_object.specs.Shown.{Transaction, Shows, HasObject, MayEnter, IsCu
 use Rattle.txn_object.proofs.Runs.{set_words, set-no, set-yes}
 use Rattle.txn_object.proofs.Walk.{words_at}
 use Rattle.txn_object.proofs.Rule.{state_ok}
-use Rattle.txn_object.proofs.Frames.{SameFrame, frame_places, frame_object, entry_not_fixed, entry_not_pointer, entry_in, entries_differ}
+use Rattle.txn_object.proofs.Frames.{SameFrame, frame_places, commit_stays, frame_object, pointer_not_low, entry_not_fixed, entry_not_pointer, entry_in, entries_differ}
 
 -- ── a plan of one store ──
 
@@ -130,26 +130,22 @@ packed_words words object packed nth lt none =
 -- ── a begin ──
 
 module _ (base : List ℕ) (object value : ℕ) (has : HasObject base object) where
-  state_frame : SameFrame base (set base (state_at object) value) object
+  pub state_frame : SameFrame base (set base (state_at object) value) object
   state_frame = record {
     size = length-set base (state_at object) value;
     ready = get_or-set_other base (state_at object) (ready_at object) value 0 (λ e. omega (arith, e));
-    pointers = λ k le. get_or-set_other base (state_at object) (segment_pointer_at base object k) value 0 (not_pointer k le);
+    pointers = λ k le. get_or-set_other base (state_at object) (segment_pointer_at base object k) value 0 (pointer_not_low base object has k (state_at object) le (omega arith));
   }
-    where
-      not_pointer : (k : ℕ) → k ≤ ready_count base object → segment_pointer_at base object k ≢ state_at object
-      not_pointer zero le e = omega (arith, e)
-      not_pointer (suc k) le e = let far = has.behind k (omega (arith, le)) in let number = has.number in omega (arith, far, number, e)
 
-  state_words : words_at (set base (state_at object) value) (entry_places base object) ≡ words_at base (entry_places base object)
+  pub state_words : words_at (set base (state_at object) value) (entry_places base object) ≡ words_at base (entry_places base object)
   state_words = words_at-same base (set base (state_at object) value) (entry_places base object)
       (λ k lt. get_or-set_other base (state_at object) (get_or (entry_places base object) k 0) value 0 (entry_not_fixed base object has k (state_at object) lt (let number = has.number in omega (arith, number)) (inl (omega arith))))
 
   pub state_object : value ≤ 1 → HasObject (set base (state_at object) value) object
   state_object le = frame_object base (set base (state_at object) value) object state_frame has
       (let now = get_or-set_same base (state_at object) value 0 (let number = has.number in let size = has.size in omega (arith, number, size)) in omega (arith, now, le))
-      (get_or-set_other base (state_at object) (commit_word_at object) value 0 (λ e. omega (arith, e)))
-      (get_or-set_other base (state_at object) last_at value 0 (λ e. omega (arith, e)))
+      (let last = get_or-set_other base (state_at object) last_at value 0 (λ e. omega (arith, e)) in
+      commit_stays base (set base (state_at object) value) object state_frame has (get_or-set_other base (state_at object) (commit_word_at object) value 0 (λ e. omega (arith, e))) (omega (arith, last)))
 
   pub state_shows : (transaction : Transaction) → Shows base object transaction → Shows (set base (state_at object) value) object (record transaction { state = value })
   state_shows transaction shows = record {
@@ -191,7 +187,7 @@ module _ (base : List ℕ) (object nth : ℕ) (entry : Entry) (may : MayEnter ba
   abbrev pub entered : List ℕ
   entered = set base (get_or (entry_places base object) nth 0) (entry_word entry)
 
-  entry_frame : SameFrame base (set base (get_or (entry_places base object) nth 0) (entry_word entry)) object
+  pub entry_frame : SameFrame base (set base (get_or (entry_places base object) nth 0) (entry_word entry)) object
   entry_frame = record {
     size = length-set base (get_or (entry_places base object) nth 0) (entry_word entry);
     ready = get_or-set_other base (get_or (entry_places base object) nth 0) (ready_at object) (entry_word entry) 0 (λ e. fixed (ready_at object) (let number = may.is_object.number in omega (arith, number)) (omega arith) (sym e));
@@ -201,7 +197,7 @@ module _ (base : List ℕ) (object nth : ℕ) (entry : Entry) (may : MayEnter ba
       fixed : (w : ℕ) → w < 2048 → w < entry_at object 0 → get_or (entry_places base object) nth 0 ≢ w
       fixed w low before = entry_not_fixed base object may.is_object nth w may.room low (inl before)
 
-  fixed_kept : (w : ℕ) → w < entry_at object 0 → get_or (set base (get_or (entry_places base object) nth 0) (entry_word entry)) w 0 ≡ get_or base w 0
+  pub fixed_kept : (w : ℕ) → w < entry_at object 0 → get_or (set base (get_or (entry_places base object) nth 0) (entry_word entry)) w 0 ≡ get_or base w 0
   fixed_kept w before = get_or-set_other base (get_or (entry_places base object) nth 0) w (entry_word entry) 0
       (λ e. entry_not_fixed base object may.is_object nth w may.room (let number = may.is_object.number in omega (arith, number, before)) (inl before) (sym e))
 
@@ -212,8 +208,8 @@ module _ (base : List ℕ) (object nth : ℕ) (entry : Entry) (may : MayEnter ba
   pub entry_object : HasObject (set base (get_or (entry_places base object) nth 0) (entry_word entry)) object
   entry_object = frame_object base (set base (get_or (entry_places base object) nth 0) (entry_word entry)) object entry_frame may.is_object
       (let ok = state_ok base object may.is_object.rule in let same = fixed_kept (state_at object) (omega arith) in omega (arith, ok, same))
-      (fixed_kept (commit_word_at object) (omega arith))
-      (fixed_kept last_at (omega arith))
+      (let last = fixed_kept last_at (omega arith) in
+      commit_stays base (set base (get_or (entry_places base object) nth 0) (entry_word entry)) object entry_frame may.is_object (fixed_kept (commit_word_at object) (omega arith)) (omega (arith, last)))
 
   pub entry_shows : (transaction : Transaction) → Shows base object transaction → Shows (set base (get_or (entry_places base object) nth 0) (entry_word entry)) object (record transaction { entries = transaction.entries ++ entry ∷ [] })
   entry_shows transaction shows =

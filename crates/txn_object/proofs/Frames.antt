@@ -1,7 +1,7 @@
 -- An object whose count and pointers stay: its segments and the places of its entries stay too.
-use Rattle.std.proofs.Common.{◌≡◌, ◌≢◌, ◌⊎◌, inl, inr, ⊎_elim, ℕ, zero, suc, ◌+◌, ◌-◌, ◌*◌, ◌/◌, ◌%◌, ◌^◌, ◌<◌, ◌≤◌, min, Bool, not, ◌&&◌, ◌||◌, eqb, leb, ltb, List, ◌∷◌, ◌++◌, length, map, get_or, refl, sym, ◌∙◌, ap, subst, arith}
+use Rattle.std.proofs.Common.{◌≡◌, ◌≢◌, ◌⊎◌, inl, inr, ⊎_elim, ℕ, zero, suc, ◌+◌, ◌-◌, ◌*◌, ◌/◌, ◌%◌, ◌^◌, ◌<◌, ◌≤◌, min, Bool, true, not, ◌&&◌, ◌||◌, eqb, leb, ltb, List, ◌∷◌, ◌++◌, length, map, get_or, refl, sym, ◌∙◌, ap, subst, arith}
 use Rattle.std.specs.List.{flat_map, range_with_len}
-use Rattle.std.proofs.lemmas.Bool.{cases_eq, cases_lt}
+use Rattle.std.proofs.lemmas.Bool.{cases_eq, cases_lt, leb-true, le-leb}
 use Rattle.pm_model.specs.Pointer.{pointer_word}
 use Rattle.pm_model.specs.Fixed.{state_at, commit_word_at, ready_at, last_at, entry_at, first_segment_at}
 use Rattle.pm_model.specs.Places.{below, place_in, is_pointer_to, is_null_or_pointer_to}
@@ -79,9 +79,16 @@ module _ (old new : List ℕ) (object : ℕ) (frame : SameFrame old new object) 
       ∙ ap (λ (at : ℕ). get_or new at 0) (pointer_same old new object (ready_count old object) ready_pointers_same (ready_count old object) (omega arith))
       ∙ frame.pointers (ready_count old object) (omega arith)
 
-  -- the object is one as before, with whatever state
-  pub frame_object : HasObject old object → get_or new (state_at object) 0 ≤ 1 → get_or new (commit_word_at object) 0 ≡ get_or old (commit_word_at object) 0 → get_or new last_at 0 ≡ get_or old last_at 0 → HasObject new object
-  frame_object has state commit last =
+  -- a commit word that stays is one of the numbers so far, and the next
+  pub commit_stays : HasObject old object → get_or new (commit_word_at object) 0 ≡ get_or old (commit_word_at object) 0 → get_or old last_at 0 ≤ get_or new last_at 0
+      → leb (commit_word new object) (min (get_or new last_at 0 + 1) (2 ^ 40 - 1)) ≡ true
+  commit_stays has commit last =
+      let was = leb-true (commit_word old object) (min (get_or old last_at 0 + 1) (2 ^ 40 - 1)) (commit_ok old object has.rule) in
+      le-leb (commit_word new object) (min (get_or new last_at 0 + 1) (2 ^ 40 - 1)) (omega (arith, was, commit, last))
+
+  -- the object is one as before, with whatever state and commit word
+  pub frame_object : HasObject old object → get_or new (state_at object) 0 ≤ 1 → leb (commit_word new object) (min (get_or new last_at 0 + 1) (2 ^ 40 - 1)) ≡ true → HasObject new object
+  frame_object has state commit =
       let ready = frame.ready in
       let most = at_most_32 old object has.rule in
       let segment : (k : ℕ) → k < ready_count new object → segment_of new object k ≡ segment_of old object k = λ k lt. segment_same old new object (ready_count old object) ready_pointers_same k (omega (arith, lt, ready)) in
@@ -90,7 +97,7 @@ module _ (old new : List ℕ) (object : ℕ) (frame : SameFrame old new object) 
         size = subst (λ (n : ℕ). 2048 ≤ n) (sym frame.size) has.size;
         whole = subst (λ (n : ℕ). n % 32768 ≡ 0) (sym frame.size) has.whole;
         rule = rule_from new object state
-            (ap (λ (n : ℕ). leb n (min (get_or new last_at 0 + 1) (2 ^ 40 - 1))) commit ∙ ap (λ (n : ℕ). leb (commit_word old object) (min (n + 1) (2 ^ 40 - 1))) last ∙ commit_ok old object has.rule)
+            commit
             (omega (arith, ready, most))
             (λ k lt. segment_pointer-same old new object k frame.size (λ j le. frame.pointers j (omega (arith, le, lt, ready))) ∙ pointer_rule old object has.rule k (omega (arith, lt, ready)))
             (ap (λ (b : Bool). eqb (get_or new (pointer_after new object) 0) 0 || b) (pointer_to-same old new (get_or new (pointer_after new object) 0) frame.size) ∙ ap (is_null_or_pointer_to old 256) after_word ∙ after_ok old object has.rule);
@@ -136,6 +143,11 @@ module _ (words : List ℕ) (object : ℕ) (has : HasObject words object) where
   both_apart a b ne la lb = ⊎_elim (λ lt. has.apart a b lt lb)
       (λ ge. ⊎_elim (λ before. inr before) (λ after. inl after) (has.apart b a (omega (arith, ne, ge)) la))
       (cases_lt a b)
+
+  -- no pointer stands in the words before the first one
+  pub pointer_not_low : (k w : ℕ) → k ≤ ready_count words object → w < first_segment_at object → segment_pointer_at words object k ≢ w
+  pointer_not_low zero w le low e = omega (arith, low, e)
+  pointer_not_low (suc k) w le low e = let far = has.behind k (omega (arith, le)) in let number = has.number in omega (arith, far, number, low, e)
 
   -- no entry stands in a fixed word or at a pointer
   pub entry_not_fixed : (nth w : ℕ) → nth < length (entry_places words object) → w < 2048 → (w < entry_at object 0) ⊎ (entry_at object 60 ≤ w) → get_or (entry_places words object) nth 0 ≢ w

@@ -14,7 +14,7 @@ use Rattle.txn_object.specs.Object.{clear_part, retire_parts, NoEntryFollowsZero
 use Rattle.txn_object.specs.Shown.{Shows, HasObject, IsCleared, IsRetiring, IsRetired}
 use Rattle.txn_object.proofs.Runs.{set_words, set-no}
 use Rattle.txn_object.proofs.Walk.{words_at}
-use Rattle.txn_object.proofs.Frames.{SameFrame, frame_places, entry_not_fixed, entry_not_pointer, entry_in, entries_differ}
+use Rattle.txn_object.proofs.Frames.{SameFrame, frame_places, pointer_not_low, entry_not_fixed, entry_not_pointer, entry_in, entries_differ}
 use Rattle.txn_object.proofs.Entering.{packed_words, packed-at}
 
 -- ── lists of places ──
@@ -172,20 +172,16 @@ module _ (words : List ℕ) (object entries : ℕ) (word : Bool) (has : HasObjec
   -- ── what it shows ──
 
   module _ (after : List ℕ) (retired : IsRetired words object entries word after) where
-    frame : SameFrame words after object
+    pub frame : SameFrame words after object
     frame = record {
       size = retired.size;
       ready = retired.others (ready_at object) (λ e. omega (arith, e)) (λ cleared. ⊎_elim
           (λ entry. let lt = entry.1 in entry_not_fixed words object has entry.0 (ready_at object) (omega (arith, lt, le)) (let number = has.number in omega (arith, number)) (inl (omega arith)) (sym entry.2))
           (λ commit. let at = commit.1 in omega (arith, at)) cleared);
-      pointers = λ k below. retired.others (segment_pointer_at words object k) (not_fixed k below (state_at object) (omega arith)) (λ cleared. ⊎_elim
+      pointers = λ k below. retired.others (segment_pointer_at words object k) (pointer_not_low words object has k (state_at object) below (omega arith)) (λ cleared. ⊎_elim
           (λ entry. let lt = entry.1 in entry_not_pointer words object has entry.0 k (omega (arith, lt, le)) below (sym entry.2))
-          (λ commit. not_fixed k below (commit_word_at object) (omega arith) commit.1) cleared);
+          (λ commit. pointer_not_low words object has k (commit_word_at object) below (omega arith) commit.1) cleared);
     }
-      where
-        not_fixed : (k : ℕ) → k ≤ ready_count words object → (w : ℕ) → w < first_segment_at object → segment_pointer_at words object k ≢ w
-        not_fixed zero below w low e = omega (arith, low, e)
-        not_fixed (suc k) below w low e = let far = has.behind k (omega (arith, below)) in let number = has.number in omega (arith, far, number, low, e)
 
     pub retire_free : length (objects.entries words object) ≤ entries → NoEntryFollowsZero words object → (nth : ℕ) → nth < length (entry_places words object) → get_or after (get_or (entry_places words object) nth 0) 0 ≡ 0
     retire_free most packed nth lt = ⊎_elim
@@ -203,15 +199,19 @@ module _ (words : List ℕ) (object entries : ℕ) (word : Bool) (has : HasObjec
         ∙ was)
         (cases_lt nth entries)
 
+    pub retire_none : length (objects.entries words object) ≤ entries → NoEntryFollowsZero words object → objects.entries after object ≡ []
+    retire_none most packed =
+        ap (λ (places : List ℕ). set_words (words_at after places)) (frame_places words after object frame)
+        ∙ zeros-none (words_at after (entry_places words object)) (λ k lt.
+        let size = length-map (entry_places words object) (λ w. get_or after w 0) in
+        let there : k < length (entry_places words object) = omega (arith, lt, size) in
+        get_or-map (λ w. get_or after w 0) (entry_places words object) k 0 0 there ∙ retire_free most packed k there)
+
     pub retire_shows : length (objects.entries words object) ≤ entries → NoEntryFollowsZero words object → (word ≡ true) ⊎ (get_or words (commit_word_at object) 0 ≡ 0) → Shows after object (record { state = 0; commit_word = 0; entries = [] })
     retire_shows most packed commit = record {
       state = retired.state;
       commit_word = ⊎_elim (λ is. retired.cleared (commit_word_at object) (inr (is, refl))) (λ unset. by_word word refl unset) commit;
-      entries = ap (λ (places : List ℕ). map entry_of (set_words (words_at after places))) (frame_places words after object frame)
-          ∙ ap (λ (l : List ℕ). map entry_of l) (zeros-none (words_at after (entry_places words object)) (λ k lt.
-          let size = length-map (entry_places words object) (λ w. get_or after w 0) in
-          let there : k < length (entry_places words object) = omega (arith, lt, size) in
-          get_or-map (λ w. get_or after w 0) (entry_places words object) k 0 0 there ∙ retire_free most packed k there));
+      entries = ap (λ (l : List ℕ). map entry_of l) (retire_none most packed);
     }
       where
         by_word : (b : Bool) → word ≡ b → get_or words (commit_word_at object) 0 ≡ 0 → get_or after (commit_word_at object) 0 ≡ 0

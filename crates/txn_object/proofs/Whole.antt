@@ -51,7 +51,7 @@ apart_from_blocks words object number size whole has = record {
 }
 
 -- the same heap keeps its rules
-rules_same : (old new : List ℕ) → SameHeap old new → KeepsHeapRules old → KeepsHeapRules new
+pub rules_same : (old new : List ℕ) → SameHeap old new → KeepsHeapRules old → KeepsHeapRules new
 rules_same old new same rules =
     rules_from new (λ page lt. kept_same old new page (is_inside-same old new (inside_from old new (λ p. (same.pages p).descriptor)) page) (same.pages page).descriptor (same.pages page).bitmap
     (rules_at old rules page (subst (λ (n : ℕ). page < n / 512) same.size lt)))

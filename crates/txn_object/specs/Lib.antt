@@ -4,4 +4,5 @@ pub mod Entries
 pub mod Extension
 pub mod Object
 pub mod Shown
+pub mod Spared
 pub mod TestObject

@@ -1,9 +1,9 @@
 // What an object's words show through each power cut, whatever is played beside the plan.
-ghost use Rattle.std.specs.Prelude.{Bool, ◌≡◌, ◌≢◌, ◌⊎◌, ◌↔◌, ℕ, ◌^◌, ◌%◌, ◌<◌, ◌≤◌, [], ◌∷◌, ◌++◌, IsTrue, List, length, slice_index};
+ghost use Rattle.std.specs.Prelude.{Bool, ◌≡◌, ◌≢◌, ◌⊎◌, ◌↔◌, ℕ, ◌+◌, ◌^◌, ◌%◌, ◌<◌, ◌≤◌, [], ◌∷◌, ◌++◌, IsTrue, List, length, slice_index};
 ghost use Rattle.pm_model.specs.declared.action.Action.{Action};
-ghost use Rattle.pm_model.specs.Device.{Device, IsClean};
-ghost use Rattle.pm_model.specs.Fixed.{state_at, commit_word_at};
-ghost use Rattle.pm_model.specs.Plans.{Play, IsPlaying, IsPlan, EachCut, finished, footprint, plan_of};
+ghost use Rattle.pm_model.specs.Device.{Device, IsBetween, IsClean};
+ghost use Rattle.pm_model.specs.Fixed.{last_at, state_at, commit_word_at};
+ghost use Rattle.pm_model.specs.Plans.{Part, Play, IsPlaying, IsPlan, EachCut, finished, footprint, one_store, plan_of, words_after};
 ghost use Rattle.pm_model.specs.Blocks.{live_blocks};
 ghost use Rattle.pm_model.specs.Objects.{entry_places, pointer_after};
 ghost use Rattle.heap_palloc.specs.Lane.{mended_lane};
@@ -15,6 +15,7 @@ ghost use Rattle.heap_palloc.specs.Index.{HeapIndex, IsIndexOf};
 ghost use Rattle.txn_object.specs.Calls.{MayPlanExtension};
 ghost use Rattle.txn_object.specs.Extension.{Extension, new_segment, extension_parts, segment_block, HasSegments, MayExtend};
 ghost use Rattle.txn_object.specs.Shown.{Transaction, Shows, HasObject, MayEnter, IsCut, IsUnextended, IsExtended, IsRetiring, IsRetired};
+ghost use Rattle.txn_object.specs.Spared.{KeepsObject, SparesObject};
 
 /// A begin: the state before it or 1, and from its last action on 1. The entries stay.
 pub fn begin_law()
@@ -35,6 +36,25 @@ pub fn begin_law()
     // The object's rule goes on to hold.
     ensures object { (object : ℕ) (play : Play) (left : List Action) (d : Device) (image base : List ℕ) →
         IsCut play left d image base → play.parts ≡ begin_parts object → HasObject base object → HasObject image object }
+
+    // A cut of its part has the words before it or after it.
+    ensures cut { (object : ℕ) (base image : List ℕ) → IsBetween base (words_after (one_store (state_at object) 1) base) image →
+        (image ≡ base) ⊎ (image ≡ words_after (one_store (state_at object) 1) base) }
+    ensures after { (object : ℕ) (transaction : Transaction) (base : List ℕ) → HasObject base object → Shows base object transaction →
+        Shows (words_after (one_store (state_at object) 1) base) object (record transaction { state = 1 }) }
+
+    // The same before other parts, which leave the object's words.
+    ensures each { (object : ℕ) (transaction : Transaction) (parts : List Part) (base : List ℕ) →
+        HasObject base object → Shows base object transaction → SparesObject base object parts →
+        EachCut (λ image. Shows image object transaction ⊎ Shows image object (record transaction { state = 1 })) (begin_parts object ++ parts) base }
+    ensures finishes { (object : ℕ) (transaction : Transaction) (parts : List Part) (base : List ℕ) →
+        HasObject base object → Shows base object transaction → SparesObject base object parts →
+        Shows (finished (begin_parts object ++ parts) base) object (record transaction { state = 1 }) }
+
+    // The ready segments go on to be blocks of the heap, and the next extension may be planned as before.
+    ensures segments { (object : ℕ) (base : List ℕ) → HasObject base object → HasSegments base object → EachCut (λ image. HasSegments image object) (begin_parts object) base }
+    ensures goes_on { (object : ℕ) (index : HeapIndex) (base : List ℕ) → HasObject base object → MayPlanExtension base index object →
+        EachCut (λ image. MayPlanExtension image index object) (begin_parts object) base }
 {}
 
 /// An entry: the entries before it or one more, and from its last action on one more.
@@ -60,6 +80,32 @@ pub fn entry_law()
         IsCut play left d image base → play.parts ≡ entry_part base object nth entry ∷ [] → MayEnter base object nth entry → HasObject image object }
     ensures packed { (object nth : ℕ) (entry : Entry) (play : Play) (left : List Action) (d : Device) (image base : List ℕ) →
         IsCut play left d image base → play.parts ≡ entry_part base object nth entry ∷ [] → MayEnter base object nth entry → NoEntryFollowsZero image object }
+
+    // A cut of its part has the words before it or after it. After it the entries stand at the same places, and the next one
+    // may be entered.
+    ensures cut { (object nth : ℕ) (entry : Entry) (base image : List ℕ) → IsBetween base (words_after (entry_part base object nth entry) base) image →
+        (image ≡ base) ⊎ (image ≡ words_after (entry_part base object nth entry) base) }
+    ensures after { (object nth : ℕ) (entry : Entry) (transaction : Transaction) (base : List ℕ) → MayEnter base object nth entry → Shows base object transaction →
+        Shows (words_after (entry_part base object nth entry) base) object (record transaction { entries = transaction.entries ++ entry ∷ [] }) }
+    ensures places { (object nth : ℕ) (entry : Entry) (base : List ℕ) → MayEnter base object nth entry →
+        entry_places (words_after (entry_part base object nth entry) base) object ≡ entry_places base object }
+    ensures next { (object nth : ℕ) (entry other : Entry) (base : List ℕ) → MayEnter base object nth entry →
+        nth + 1 < length (entry_places base object) → other.table < 2 ^ 24 → other.row < 2 ^ 32 →
+        MayEnter (words_after (entry_part base object nth entry) base) object (nth + 1) other }
+
+    // The same before other parts, which leave the object's words.
+    ensures each { (object nth : ℕ) (entry : Entry) (transaction : Transaction) (parts : List Part) (base : List ℕ) →
+        MayEnter base object nth entry → Shows base object transaction → SparesObject base object parts →
+        EachCut (λ image. Shows image object transaction ⊎ Shows image object (record transaction { entries = transaction.entries ++ entry ∷ [] })) (entry_part base object nth entry ∷ parts) base }
+    ensures finishes { (object nth : ℕ) (entry : Entry) (transaction : Transaction) (parts : List Part) (base : List ℕ) →
+        MayEnter base object nth entry → Shows base object transaction → SparesObject base object parts →
+        Shows (finished (entry_part base object nth entry ∷ parts) base) object (record transaction { entries = transaction.entries ++ entry ∷ [] }) }
+
+    // The ready segments go on to be blocks of the heap, and the next extension may be planned as before.
+    ensures segments { (object nth : ℕ) (entry : Entry) (base : List ℕ) → MayEnter base object nth entry → HasSegments base object →
+        EachCut (λ image. HasSegments image object) (entry_part base object nth entry ∷ []) base }
+    ensures goes_on { (object nth : ℕ) (entry : Entry) (index : HeapIndex) (base : List ℕ) → MayEnter base object nth entry → MayPlanExtension base index object →
+        EachCut (λ image. MayPlanExtension image index object) (entry_part base object nth entry ∷ []) base }
 {}
 
 /// An extension: the lane mended, each image has the ready segments before, or those after and new words of 0; the entries
@@ -105,4 +151,30 @@ pub fn retire_law()
     ensures empty { (old : List ℕ) (object entries : ℕ) (word : Bool) (words : List ℕ) (nth : ℕ) → HasObject old object → entries ≤ length (entry_places old object) →
         IsRetired old object entries word words → length (entries_in old object) ≤ entries → NoEntryFollowsZero old object → nth < length (entry_places old object) →
         slice_index words (nth_place old object nth) ≡ 0 }
+
+    // At each cut and at the end the object's rule holds; the ready segments go on to be blocks of the heap, and the next
+    // extension may be planned as before.
+    ensures object { (base : List ℕ) (object entries : ℕ) (word : Bool) → HasObject base object → entries ≤ length (entry_places base object) →
+        EachCut (λ image. HasObject image object) (retire_parts base object entries word) base }
+    ensures segments { (base : List ℕ) (object entries : ℕ) (word : Bool) → HasObject base object → entries ≤ length (entry_places base object) →
+        HasSegments base object → EachCut (λ image. HasSegments image object) (retire_parts base object entries word) base }
+    ensures goes_on { (base : List ℕ) (object entries : ℕ) (word : Bool) (index : HeapIndex) → HasObject base object → entries ≤ length (entry_places base object) →
+        MayPlanExtension base index object → EachCut (λ image. MayPlanExtension image index object) (retire_parts base object entries word) base }
+
+    // Then the next transaction may have its first entry.
+    ensures begins { (old : List ℕ) (object entries : ℕ) (word : Bool) (words : List ℕ) (entry : Entry) → HasObject old object → entries ≤ length (entry_places old object) →
+        IsRetired old object entries word words → length (entries_in old object) ≤ entries → NoEntryFollowsZero old object →
+        entry.table < 2 ^ 24 → entry.row < 2 ^ 32 → MayEnter words object 0 entry }
+{}
+
+/// What an object shows, and its rule, depend on its own words alone, and the rule also on the last number.
+pub fn object_law()
+    ensures shows { (old new : List ℕ) (object : ℕ) (transaction : Transaction) → KeepsObject old object new → Shows old object transaction → Shows new object transaction }
+    ensures rule { (old new : List ℕ) (object : ℕ) → KeepsObject old object new → slice_index old last_at ≤ slice_index new last_at → HasObject old object → HasObject new object }
+    ensures packed { (old new : List ℕ) (object : ℕ) → KeepsObject old object new → NoEntryFollowsZero old object → NoEntryFollowsZero new object }
+    ensures places { (old new : List ℕ) (object : ℕ) → KeepsObject old object new → entry_places new object ≡ entry_places old object }
+
+    // Parts that leave them leave what it shows.
+    ensures parts { (words : List ℕ) (object : ℕ) (transaction : Transaction) (parts : List Part) → SparesObject words object parts → Shows words object transaction →
+        EachCut (λ image. Shows image object transaction) parts words }
 {}

@@ -14,7 +14,7 @@ mod segments;
 pub use entry::{Entry, EntryKind, EntryList};
 pub use error::ExtendError;
 pub use extend::plan_extend;
-pub use laws::{begin_law, entry_law, extension_law, retire_law};
+pub use laws::{begin_law, entry_law, extension_law, object_law, retire_law};
 pub use object::{plan_begin, push_entry, push_retire, retire_room};
 pub use owned::owned_segments_law;
 pub use pm_model::NoMemory;
@@ -22,3 +22,5 @@ pub use reading::{entries, free_entries};
 
 #[cfg(test)]
 mod tests;
+#[cfg(test)]
+mod transaction_tests;

@@ -20,7 +20,7 @@ const ENDED: Entry = Entry {
 };
 
 // A formatted image of one segment, and its heap.
-fn formatted(alloc: Global) -> Result<(Plain, Heap), NoMemory>
+pub(crate) fn formatted(alloc: Global) -> Result<(Plain, Heap), NoMemory>
     ensures { IfOk result (λ made. IsExtendable (device_of made.0) made.1) }
 {
     let words = fresh(alloc, 1)?;
@@ -30,7 +30,7 @@ fn formatted(alloc: Global) -> Result<(Plain, Heap), NoMemory>
 }
 
 // Plays all that is left of a plan.
-fn play_whole<M: Memory>(memory: &mut M, plan: &mut Plan)
+pub(crate) fn play_whole<M: Memory>(memory: &mut M, plan: &mut Plan)
     requires clean { (w : ℕ) → IsClean (M.device memory.old) w }
     requires planned { (parts : List Part) × (plan.old.left ≡ plan_of parts) × IsPlan (length (M.device memory.old).cached) parts }
     ensures words { (parts : List Part) → plan.old.left ≡ plan_of parts → IsPlan (length (M.device memory.old).cached) parts →
@@ -42,7 +42,11 @@ fn play_whole<M: Memory>(memory: &mut M, plan: &mut Plan)
 }
 
 // Extends the object of session 1, and gives how many actions the plan has.
-fn extend<M: Memory>(alloc: Global, memory: &mut M, heap: &mut Heap) -> Result<u32, ExtendError>
+pub(crate) fn extend<M: Memory>(
+    alloc: Global,
+    memory: &mut M,
+    heap: &mut Heap,
+) -> Result<u32, ExtendError>
     requires { IsExtendable (M.device memory.old) heap.old }
     ensures { IsExtendable (M.device memory.new) heap.new }
 {
@@ -53,7 +57,7 @@ fn extend<M: Memory>(alloc: Global, memory: &mut M, heap: &mut Heap) -> Result<u
 }
 
 // Extends it until it has all its segments.
-fn fill<M: Memory>(
+pub(crate) fn fill<M: Memory>(
     rt: &impl Abort,
     alloc: Global,
     memory: &mut M,

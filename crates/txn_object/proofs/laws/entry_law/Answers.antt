@@ -1,11 +1,12 @@
 use Rattle.std.proofs.Common.{◌≡◌, inl, inr, ⊎_elim, ℕ, List, [], ◌∷◌, ◌++◌, set, get_or, sym, subst}
 use Rattle.pm_model.specs.Objects.{entry_places}
-use Rattle.pm_model.proofs.Cuts.{store_part}
+use Rattle.pm_model.proofs.Cuts.{store_part, one_store-cut}
 use Rattle.txn_object.specs.Entries.{entry_word}
 use Rattle.txn_object.specs.Object.{NoEntryFollowsZero}
 use Rattle.txn_object.specs.Shown.{Shows, HasObject}
 use Rattle.txn_object.proofs.Frames.{entry_in}
 use Rattle.txn_object.proofs.Entering.{cut-one_store, ended-one_store, others-one_store, clean-one_store, entry_of-entry_word, entry_object, entry_shows, entry_packed}
+use Rattle.txn_object.proofs.Parts.{entry_places_stay, entry_next, entry_segments, entry_goes_on, entry_before, entry_finished}
 use Rattle.txn_object.proofs.laws.entry_law.Goals as goal
 
 pub returns-clause-spelt : goal.returns-clause-spelt
@@ -43,3 +44,27 @@ returns-clause-packed c = λ object nth entry play left d image base cut is may.
     (λ (old : image ≡ base). subst (λ (l : List ℕ). NoEntryFollowsZero l object) (sym old) may.packed)
     (λ (new : image ≡ set base (get_or (entry_places base object) nth 0) (entry_word entry)). subst (λ (l : List ℕ). NoEntryFollowsZero l object) (sym new) (entry_packed base object nth entry may))
     (cut-one_store (get_or (entry_places base object) nth 0) (entry_word entry) play d image base is left cut)
+
+pub returns-clause-cut : goal.returns-clause-cut
+returns-clause-cut c = λ object nth entry base image between. one_store-cut (get_or (entry_places base object) nth 0) (entry_word entry) base image between
+
+pub returns-clause-after : goal.returns-clause-after
+returns-clause-after c = λ object nth entry transaction base may shows. entry_shows base object nth entry may transaction shows
+
+pub returns-clause-places : goal.returns-clause-places
+returns-clause-places c = λ object nth entry base may. entry_places_stay base object nth entry may
+
+pub returns-clause-next : goal.returns-clause-next
+returns-clause-next c = λ object nth entry other base may lt table row. entry_next base object nth entry may other lt table row
+
+pub returns-clause-each : goal.returns-clause-each
+returns-clause-each c = λ object nth entry transaction parts base may shows spares. entry_before base object nth entry may transaction shows parts spares
+
+pub returns-clause-finishes : goal.returns-clause-finishes
+returns-clause-finishes c = λ object nth entry transaction parts base may shows spares. entry_finished base object nth entry may transaction shows parts spares
+
+pub returns-clause-segments : goal.returns-clause-segments
+returns-clause-segments c = λ object nth entry base may segments. entry_segments base object nth entry may segments
+
+pub returns-clause-goes_on : goal.returns-clause-goes_on
+returns-clause-goes_on c = λ object nth entry index base may extends. entry_goes_on base object nth entry may index extends

@@ -3,6 +3,7 @@ use Rattle.std.proofs.lemmas.List.{length-map}
 use Rattle.pm_model.specs.Objects.{entries}
 use Rattle.txn_object.specs.Entries.{entry_of}
 use Rattle.txn_object.proofs.Retire.{retire_plan, retire_each, retire_ends, retire_shows, retire_free}
+use Rattle.txn_object.proofs.Parts.{retire_object, retire_segments, retire_goes_on, retire_begins}
 use Rattle.txn_object.proofs.laws.retire_law.Goals as goal
 
 few : (words : List ℕ) (object count : ℕ) (n : ℕ) → n ≡ length (entries words object) → n ≤ count → length (entries words object) ≤ count
@@ -17,4 +18,8 @@ returns c = record {
       retire_shows old object count word has le words retired (few old object count _ (length-map (entries old object) entry_of) most) packed commit;
   empty = λ old object count word words nth has le retired most packed lt.
       retire_free old object count word has le words retired (few old object count _ (length-map (entries old object) entry_of) most) packed nth lt;
+  object = λ base object count word has le. retire_object base object count word has le;
+  segments = λ base object count word has le segments. retire_segments base object count word has le segments;
+  goes_on = λ base object count word index has le may. retire_goes_on base object count word has le index may;
+  begins = λ old object count word words entry has le retired most packed table row. retire_begins old object count word has le words entry retired most packed table row;
 }

@@ -1,0 +1,14 @@
+-- The worked images show their states.
+use Rattle.std.proofs.Common.{refl}
+use Rattle.pm_model.specs.Arrays.{chunk_of}
+use Rattle.pm_model.specs.Objects.{entry_places}
+use Rattle.shown_state.specs.LogicalState.{name_at, logical_state}
+use Rattle.shown_state.specs.CommitLaws.{one_table_image, OneTableIsShown, two_commit_image, TwoCommitsAreShown}
+
+pub one_table_is_shown : OneTableIsShown
+unfolding one_table_image logical_state name_at entry_places
+one_table_is_shown = (refl, refl)
+
+pub two_commits_are_shown : TwoCommitsAreShown
+unfolding two_commit_image logical_state name_at entry_places chunk_of
+two_commits_are_shown = (refl, refl)
