@@ -13,7 +13,7 @@ use Rattle.pm_model.specs.Blocks.{Block, block_words, live_blocks}
 use Rattle.pm_model.specs.Trees.{dictionary_length}
 use Rattle.pm_model.specs.HeapRules.{reserved_rule, descriptor_rule}
 use Rattle.pm_model.specs.Checks.{Check, check, Keeps}
-use Rattle.pm_model.specs.EntryRules.{KeepsEntryRules, is_table_pointer, is_table_slot, table_count_rule, table_slot_rule, arrays_rule, is_segment_pointer, object_rule, objects_rule}
+use Rattle.pm_model.specs.EntryRules.{KeepsEntryRules, table_count_rule, table_slot_rule, arrays_rule, is_segment_pointer, object_rule, objects_rule}
 use Rattle.pm_model.specs.Tables.{table_count, table_block, table_blocks, columns_of, all_columns, column_headers, array_headers, is_text}
 use Rattle.pm_model.specs.Objects.{commit_word, ready_count, segment_pointer_at, segment_of, pointer_after}
 use Rattle.pm_model.specs.Owners.{names_one, chunk_owner, table_owner, segment_owner, OwnersAreApart, next_chunk_pointers, next_table_slots, next_text_slots, unfinished_slots, lane_targets}
@@ -21,6 +21,7 @@ use Rattle.pm_model.proofs.Faults.{Holds}
 use Rattle.pm_model.proofs.Members.{below-Contains, Contains-below, Contains-here, Contains-there, Contains-cons, Contains-nil, Contains-flat_map, flat_map-Contains, Contains-map, map-Contains}
 use Rattle.pm_model.proofs.ChunkSizes.{capacity_next, chunk_below}
 use Rattle.pm_model.proofs.Heap.{live_blocks_apart}
+use Rattle.pm_model.proofs.TableSlots.{count_most, slot_pointer, pointer_parts}
 use Rattle.pm_model.proofs.OwnersApart.{LiveAt, live_behind, table_fits, chunk_size, all_from, named, table_in, block_in, object_in, table_before_own, table_before_table, table_before_object, object_before_object, chunk_in, segment_in, segment_before, header_in, live_owner, differ}
 
 -- ── rules of one thing out of many ──
@@ -41,9 +42,6 @@ one_array words table header keeps lt is = record {
       (map-Contains (table_block words) (below (table_count words)) table (below-Contains (table_count words) table lt))) is;
 }
 
-pub few_tables : (words : List ℕ) → Keeps words table_count_rule → table_count words ≤ 32
-few_tables words keeps = leb-true (table_count words) 32 (All-contains Holds (table_count_rule words) (check 515 (leb (table_count words) 32)) keeps.checks (Contains-here (check 515 (leb (table_count words) 32)) []))
-
 -- a published table's slot names a block with 1 to 16 columns
 pub record IsTable (words : List ℕ) (table : ℕ) : Type 0 where
   pub some : get_or words (table_slot_at table) 0 ≢ 0
@@ -58,18 +56,11 @@ pointer_some words word is = nonnull (and_parts (eqb word (pointer_word (place_i
     nonnull same none = let at = eqb-true word (pointer_word (place_in word)) same in omega (arith, at, none)
 
 pub one_table : (words : List ℕ) (table : ℕ) → Keeps words table_count_rule → Keeps words table_slot_rule → table < table_count words → IsTable words table
-unfolding table_slot_rule
 one_table words table counted slots lt =
-    let few = few_tables words counted in
     let word = get_or words (table_slot_at table) 0 in
-    let columns = get_or words (columns_at (place_in word)) 0 in
-    let holds : is_table_slot words table ≡ true = All-contains Holds (table_slot_rule words) (check (table_slot_at table) (is_table_slot words table)) slots.checks
-    (map-Contains (λ t. check (table_slot_at t) (is_table_slot words t)) (below 32) table (below-Contains 32 table (omega (arith, lt, few)))) in
-    let pointed : is_table_pointer words word ≡ true = sym (cond-true (ltb table (table_count words)) (is_table_pointer words word) _ (lt-ltb table (table_count words) lt)) ∙ holds in
-    let inside = and_parts (is_pointer words word && leb 1 columns && leb columns 16) (is_in_segment (place_in word) (table_words columns)) pointed in
-    let upper = and_parts (is_pointer words word && leb 1 columns) (leb columns 16) inside.0 in
-    let lower = and_parts (is_pointer words word) (leb 1 columns) upper.0 in
-    record { some = pointer_some words word lower.0; pointer = lower.0; least = leb-true 1 columns lower.1; most = leb-true columns 16 upper.1 }
+    let few = count_most words counted in
+    let points = pointer_parts words word (slot_pointer words slots table (omega (arith, lt, few)) lt) in
+    record { some = pointer_some words word points.pointer; pointer = points.pointer; least = points.some; most = points.most }
 
 -- the segment with a number below that of the ready ones is named by its pointer
 pub ready_named : (words : List ℕ) (object segment : ℕ) → Keeps words (object_rule object) → segment < ready_count words object → get_or words (segment_pointer_at words object segment) 0 ≢ 0
@@ -179,7 +170,7 @@ module _ (words : List ℕ) (reserved : Keeps words reserved_rule) (known : Keep
 
   pub tables_differ : (table other : ℕ) → table < other → other < table_count words → table_block words table ≢ table_block words other
   tables_differ table other order lt =
-      let few = few_tables words counted in
+      let few = count_most words counted in
       differ words reserved known apart (table_owner words table) (table_owner words other) (table_before_table words table other order lt)
       (named words (table_owner words table) (one_table words table counted slots (omega (arith, order, lt))).some)
       (named words (table_owner words other) (one_table words other counted slots lt).some)
