@@ -4,6 +4,7 @@ pub mod FirstFault
 pub mod Freeing
 pub mod Gathered
 pub mod LaneChanges
+pub mod OwnedLanes
 pub mod PartByPart
 pub mod Parts
 pub mod Steps

@@ -1,9 +1,11 @@
 // What the plans of opening leave, also where a power cut comes in one of them.
-ghost use Rattle.std.specs.Prelude.{◌≡◌, ◌↔◌, ℕ, List, None, All, length, slice_index};
+ghost use Rattle.std.specs.Prelude.{◌≡◌, ◌↔◌, ℕ, ◌%◌, ◌<◌, ◌≤◌, List, None, All, length, slice_index};
 ghost use Rattle.pm_model.specs.declared.action.Action.{Action};
 ghost use Rattle.pm_model.specs.Device.{Device};
 ghost use Rattle.pm_model.specs.Fixed.{lane_op_at};
 ghost use Rattle.pm_model.specs.Checks.{Keeps, Numbered, first_fault};
+ghost use Rattle.pm_model.specs.EntryRules.{KeepsEntryRules};
+ghost use Rattle.pm_model.specs.Owners.{OwnersAreApart};
 ghost use Rattle.pm_model.specs.Plans.{Play, IsPlan, IsPlaying, IsCrashImageWithin, IsTakenBack, EachCut};
 ghost use Rattle.heap_palloc.specs.Lane.{mended_lane};
 ghost use Rattle.shown_state.specs.LaneRules.{KeepsLaneRules, MayMend};
@@ -11,8 +13,11 @@ ghost use Rattle.shown_state.specs.Mending.{after_mending, lane_mending};
 ghost use Rattle.pmem_recover.specs.EntryRules.{entry_rules};
 ghost use Rattle.pmem_recover.specs.Steps.{step_parts};
 
-/// A law for proofs: opening's step of a lane leaves it mended, and a cut of the step is mended to the same words.
+/// A law for proofs: opening's step of a lane leaves it mended, and a cut of the step is mended to the same words. Each lane
+/// may be mended, whatever a power cut left half done: where the image keeps the rules that every image keeps, and its
+/// owner words are apart.
 pub fn lane_opening_law()
+    ensures may { (words : List ℕ) (lane : ℕ) → KeepsEntryRules words → OwnersAreApart words → length words % 32768 ≡ 0 → 32768 ≤ length words → lane < 16 → MayMend words lane }
     ensures plan { (words : List ℕ) (lane : ℕ) → MayMend words lane → IsPlan (length words) (step_parts lane_mending words lane) }
     ensures mends { (words : List ℕ) (lane : ℕ) → MayMend words lane → after_mending (lane_mending lane) words ≡ mended_lane lane words }
     ensures idle { (words : List ℕ) (lane : ℕ) → MayMend words lane → slice_index (mended_lane lane words) (lane_op_at lane) ≡ 0 }
