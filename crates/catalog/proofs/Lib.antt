@@ -5,6 +5,9 @@ pub mod Filling
 pub mod Lengths
 pub mod Lists
 pub mod Names
+pub mod OldBlocks
 pub mod Planning
+pub mod Published
+pub mod ReadBack
 pub mod Surviving
 pub mod Tested

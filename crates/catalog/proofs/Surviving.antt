@@ -189,21 +189,21 @@ module _ (base : List ℕ) (c : Creation) (on : MayCreateOn base c) where
   block_is : IsChoiceBlock base c.choice
   block_is = choice_is_block base c.choice on.may.may
 
-  lane_low : c.lane < 16
+  pub lane_low : c.lane < 16
   lane_low = idle_slot.0.lane_is
 
-  gains : GainsOne (live_blocks base) (choice_block c.choice) (live_blocks taken)
+  pub gains : GainsOne (live_blocks base) (choice_block c.choice) (live_blocks taken)
   gains = choice_gains base c.choice (allocates base on.segments on.one_or_more on.rules c on.may)
 
   changes : ChangesAt base c.lane slot c.choice
   changes = through_changes base c.lane (table_slot_at (table_count base)) c.choice on.may.through (allocates base on.segments on.one_or_more on.rules c on.may)
 
   -- the block lies behind the fixed pages
-  block_high : 2048 ≤ new_block c
+  pub block_high : 2048 ≤ new_block c
   block_high = let e = block_is.first_page in let fixed = block_is.page_is.behind_fixed in omega (arith, e, fixed)
 
   -- words of the first segment's second page are elsewhere, but for lanes and the slot
-  fixed_elsewhere : (lane w : ℕ) → 512 ≤ w → w < 576 → w ≢ slot → IsElsewhere lane slot page pages w
+  pub fixed_elsewhere : (lane w : ℕ) → 512 ≤ w → w < 576 → w ≢ slot → IsElsewhere lane slot page pages w
   fixed_elsewhere lane w low high apart = record {
     outside_lane = (λ e. omega (arith, e, high), λ e. omega (arith, e, high), λ e. omega (arith, e, high));
     no_owner = apart;

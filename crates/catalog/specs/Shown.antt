@@ -1,5 +1,6 @@
 -- What the words of an image show of a creation, once the lane and the table slot at the table count are mended.
-use Rattle.std.specs.Prelude.{◌≡◌, ◌≢◌, ◌⊎◌, ℕ, ◌+◌, ◌%◌, ◌<◌, ◌≤◌, List, length, slice_index}
+use Rattle.std.specs.Prelude.{◌≡◌, ◌≢◌, ◌⊎◌, ℕ, ◌+◌, ◌%◌, ◌<◌, ◌≤◌, IsTrue, List, All, length, slice_index}
+use Rattle.mv_model.specs.Name.{is_name}
 use Rattle.pm_model.specs.Fixed.{lane_op_at, table_count_at, table_slot_at}
 use Rattle.pm_model.specs.Pointer.{pointer_word}
 use Rattle.pm_model.specs.Plans.{finished}
@@ -11,6 +12,7 @@ use Rattle.heap_palloc.specs.Lane.{mended_lane}
 use Rattle.heap_palloc.specs.Law.{IsElsewhere}
 use Rattle.shown_state.specs.Mending.{slot_mending}
 use Rattle.catalog.specs.Creation.{Creation, MayCreate, creation_parts, new_block, table_record}
+use Rattle.catalog.specs.Entries.{CatalogTable}
 
 -- the words after a lane is mended, and then the table slot at the count: the block that it names is freed through lane 0
 abbrev pub mended_slot : List ℕ → List ℕ
@@ -45,6 +47,15 @@ pub record IsCreated (base : List ℕ) (c : Creation) (words : List ℕ) : Type 
   pub slot : slice_index words (table_slot_at (table_count base)) ≡ pointer_word (new_block c)
   pub record_is : (k : ℕ) → k < length (table_record c.name c.columns) → slice_index words (new_block c + k) ≡ slice_index (table_record c.name c.columns) k
   pub blocks_are : live_blocks words ≡ live_blocks (finished (creation_parts base c) base)
+
+-- the table as a catalog has it
+abbrev pub new_table : Creation → CatalogTable
+new_table c = record { name = c.name; columns = c.columns; block = new_block c }
+
+-- its name and those of its columns are names
+pub record HasNames (c : Creation) : Type 0 where
+  pub name : IsTrue (is_name c.name)
+  pub columns : All (λ column. IsTrue (is_name column.name)) c.columns
 
 -- The creation may begin on whole segments that keep the heap's rules, lane 0 is idle, and the slot behind the one at the
 -- count is null.

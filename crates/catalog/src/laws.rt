@@ -1,13 +1,16 @@
 // What the creation of a table keeps through each power cut, whatever is played beside it.
-ghost use Rattle.std.specs.Prelude.{◌≡◌, ◌⊎◌, ℕ, [], List, IsTrue, length};
+ghost use Rattle.std.specs.Prelude.{◌≡◌, ◌⊎◌, ℕ, [], ◌∷◌, ◌++◌, List, IsTrue, length};
 ghost use Rattle.pm_model.specs.declared.action.Action.{Action};
 ghost use Rattle.pm_model.specs.Blocks.{live_blocks};
 ghost use Rattle.pm_model.specs.Device.{Device, IsClean};
 ghost use Rattle.pm_model.specs.Plans.{Play, IsPlaying, IsPlan, IsCrashImageWithin, IsTakenBack, finished, footprint, plan_of};
+ghost use Rattle.pm_model.specs.EntryRules.{KeepsEntryRules};
+ghost use Rattle.pm_model.specs.Owners.{OwnersAreApart};
 ghost use Rattle.heap_palloc.specs.Choice.{choice_block};
 ghost use Rattle.heap_palloc.specs.Shown.{GainsOne};
 ghost use Rattle.catalog.specs.Creation.{Creation, creation_parts};
-ghost use Rattle.catalog.specs.Shown.{mended, IsUncreated, IsCreated, MayCreateOn};
+ghost use Rattle.catalog.specs.Entries.{published_tables};
+ghost use Rattle.catalog.specs.Shown.{mended, new_table, HasNames, IsUncreated, IsCreated, MayCreateOn};
 
 /// A creation: its lane and the table slot at the count mended, each image has the tables and the live blocks before, or
 /// those after. After the last action it has those after.
@@ -22,5 +25,9 @@ pub fn creation_law()
         IsPlaying play n [] d → IsCrashImageWithin play.own d image → IsTakenBack play image base → play.parts ≡ creation_parts base c → MayCreateOn base c →
         IsCreated base c (mended c.lane image) }
     ensures settles { (base : List ℕ) (c : Creation) → MayCreateOn base c → IsCreated base c (finished (creation_parts base c) base) }
+    ensures before { (base words : List ℕ) (c : Creation) → MayCreateOn base c → KeepsEntryRules base → OwnersAreApart base →
+        IsUncreated base c words → published_tables words ≡ published_tables base }
+    ensures after { (base words : List ℕ) (c : Creation) → MayCreateOn base c → HasNames c → KeepsEntryRules base → OwnersAreApart base →
+        IsCreated base c words → published_tables words ≡ published_tables base ++ new_table c ∷ [] }
     ensures clean { (play : Play) (n w : ℕ) (d : Device) → IsPlaying play n [] d → IsTrue (footprint (plan_of play.parts) w) → IsClean d w }
 {}

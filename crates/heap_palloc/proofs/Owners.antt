@@ -56,7 +56,7 @@ owns_still lane owner page pages old new dest block lt low header keeps elsewher
 
 -- ── members of a list with one more ──
 
-more_live : (old new : List Block) (one block : Block) → GainsOne old one new → Contains old block → Contains new block
+pub more_live : (old new : List Block) (one block : Block) → GainsOne old one new → Contains old block → Contains new block
 more_live old new one block gains has = subst (λ (xs : List Block). Contains xs block) (sym gains.new_is)
     (⊎_elim (λ front. Contains-append_left gains.front (one ∷ gains.back) block front) (λ back. Contains-append_right gains.front (one ∷ gains.back) block (Contains-there one block gains.back back))
     (Contains-append_cases gains.front gains.back block (subst (λ (xs : List Block). Contains xs block) gains.old_is has)))

@@ -2,15 +2,16 @@ use Rattle.std.proofs.Common.{◌≡◌, ℕ, true, get_or, sym, ◌∙◌, ap, 
 use Rattle.pm_model.specs.Places.{place_in}
 use Rattle.pm_model.specs.EntryRules.{is_table_pointer}
 use Rattle.image_rules.specs.Parts.{IsTableBlock}
-use Rattle.image_rules.proofs.TableChecks.{slot_pointer, block_pointer, is_block, pointed_some}
+use Rattle.pm_model.proofs.TableSlots.{slot_pointer, pointer_parts}
+use Rattle.image_rules.proofs.TableChecks.{is_block, pointed_some}
 use Rattle.image_rules.proofs.table_rules.table_block.Goals as goal
 
 pub unwrap-requires : goal.unwrap-requires
 unwrap-requires c =
     pointed_some c.pointed_place.result _ c.pointed_place.ensures.none
-    (block_pointer c.args.words.now _
+    (pointer_parts c.args.words.now _
     (subst (λ (p : ℕ). is_table_pointer c.args.words.now (get_or c.args.words.now p 0) ≡ true) (sym c.table_slot.ensures)
-    (slot_pointer c.args.words.now c.requires.rule c.args.table c.requires.table c.requires.published)))
+    (slot_pointer c.args.words.now c.requires.rule c.args.table c.requires.table c.requires.published))).pointer
 
 pub returns-clause-block : goal.returns-clause-block
 returns-clause-block c =
