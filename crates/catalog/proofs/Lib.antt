@@ -4,6 +4,7 @@ pub mod Filled
 pub mod Filling
 pub mod Lengths
 pub mod Lists
+pub mod Named
 pub mod Names
 pub mod OldBlocks
 pub mod Planning

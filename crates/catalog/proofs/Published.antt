@@ -20,9 +20,9 @@ use Rattle.heap_palloc.specs.Law.{IsElsewhere}
 use Rattle.shown_state.specs.LogicalState.{name_at, column_of, kind_of}
 use Rattle.shown_state.proofs.OneOwner.{any_one}
 use Rattle.shown_state.proofs.Walks.{pointers_name_their_place}
-use Rattle.catalog.specs.Entries.{CatalogTable, published_table, published_tables}
+use Rattle.catalog.specs.Entries.{CatalogTable, HasNames, published_table, published_tables}
 use Rattle.catalog.specs.Creation.{Creation, new_block, table_record}
-use Rattle.catalog.specs.Shown.{HasNames, IsCreated, IsUncreated, IsUntouched, KeepsUntouched, MayCreateOn, new_table}
+use Rattle.catalog.specs.Shown.{IsCreated, IsUncreated, IsUntouched, KeepsUntouched, MayCreateOn, new_table}
 use Rattle.catalog.proofs.Filling.{length-table_record}
 use Rattle.catalog.proofs.Lengths.{block_room}
 use Rattle.catalog.proofs.Lists.{column_same, map_next}
@@ -183,14 +183,14 @@ pub tables_before : (base : List ℕ) (c : Creation) (words : List ℕ) → MayC
 tables_before base c words on keeps apart is =
     ap (λ (n : ℕ). map (published_table words) (below n)) is.count ∙ old_tables base c on keeps apart words is.keeps
 
-pub tables_after : (base : List ℕ) (c : Creation) (words : List ℕ) → MayCreateOn base c → HasNames c → KeepsEntryRules base → OwnersAreApart base → IsCreated base c words → published_tables words ≡ published_tables base ++ new_table c ∷ []
+pub tables_after : (base : List ℕ) (c : Creation) (words : List ℕ) → MayCreateOn base c → HasNames c.name c.columns → KeepsEntryRules base → OwnersAreApart base → IsCreated base c words → published_tables words ≡ published_tables base ++ new_table c ∷ []
 tables_after base c words on named keeps apart is =
     let size = length-table_record c.name c.columns in
     let here : table_block words (table_count base) ≡ new_block c = ap place_in is.slot ∙ pointers_name_their_place (new_block c) in
     let new : published_table words (table_count base) ≡ new_table c =
     table_parts_same (name_at words (table_name_at (table_block words (table_count base)))) c.name (map (column_of words) (columns_of words (table_block words (table_count base)))) c.columns (table_block words (table_count base)) (new_block c)
-    (ap (λ (b : ℕ). name_at words (table_name_at b)) here ∙ table_name_back words (new_block c) c.name c.columns is.record_is size (name_bytes c.name named.name))
-    (ap (λ (b : ℕ). map (column_of words) (columns_of words b)) here ∙ columns_back words (new_block c) c.name c.columns is.record_is size (λ k d lt. name_bytes (get_or c.columns k d).name (named.columns k d lt)))
+    (ap (λ (b : ℕ). name_at words (table_name_at b)) here ∙ table_name_back words (new_block c) c.name c.columns is.record_is size (name_bytes c.name named.name_is))
+    (ap (λ (b : ℕ). map (column_of words) (columns_of words b)) here ∙ columns_back words (new_block c) c.name c.columns is.record_is size (λ k d lt. name_bytes (get_or c.columns k d).name (named.columns_are k d lt)))
     here in
     ap (λ (n : ℕ). map (published_table words) (below n)) is.count
     ∙ map_next (published_table words) (table_count base)

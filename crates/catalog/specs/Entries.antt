@@ -1,5 +1,5 @@
 -- What a catalog says of the published tables, and which words it stands for.
-use Rattle.std.specs.Prelude.{ℕ, ◌+◌, ◌<◌, ◌≤◌, IsTrue, Option, List, length, map, slice_index}
+use Rattle.std.specs.Prelude.{ℕ, ◌+◌, ◌<◌, ◌≤◌, IsTrue, Option, List, All, length, map, slice_index}
 use Rattle.std.specs.List.{position_from}
 use Rattle.mv_model.specs.declared.shape.Column.{Column}
 use Rattle.mv_model.specs.Name.{is_name, same_name}
@@ -15,6 +15,11 @@ pub record CatalogTable : Type 0 where
   pub name : List ℕ
   pub columns : List Column
   pub block : ℕ
+
+-- a table's name and those of its columns are names
+pub record HasNames (name : List ℕ) (columns : List Column) : Type 0 where
+  pub name_is : IsTrue (is_name name)
+  pub columns_are : All (λ column. IsTrue (is_name column.name)) columns
 
 -- the published tables, by their numbers, and the one whose creation was planned
 pub record CatalogState : Type 0 where

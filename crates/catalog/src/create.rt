@@ -5,7 +5,7 @@ ghost use Rattle.pm_model.specs.Records.{table_words as words_of_table};
 ghost use Rattle.heap_palloc.specs.Choice.{needed_pages};
 ghost use Rattle.heap_palloc.specs.Calls.{IsFull};
 ghost use Rattle.catalog.specs.declared.error.CreateError.TheVariants.{TableExists, TooManyTables, Full, NoMemory as OutOfMemory};
-ghost use Rattle.catalog.specs.Entries.{table_named};
+ghost use Rattle.catalog.specs.Entries.{HasNames, table_named};
 ghost use Rattle.catalog.specs.Calls.{MayPlanCreation, IsCreationPlanned};
 
 use crate::error::CreateError;
@@ -43,6 +43,7 @@ impl Catalog {
             × IsCreationPlanned (M.device mem.now).cached heap.old heap.new lane name.now shape.now first plan.left
             × (self.new ≡ record { tables = self.old.tables; planned = Some (record { name = name.now; columns = shape.now; block = first }) })) }
 
+        ensures names { IfOk result (λ _. HasNames name.now shape.now) }
         ensures table_exists { IsSome (table_named self.old.tables name.now) → result ≡ Err TableExists }
         ensures too_many { IsNone (table_named self.old.tables name.now) → length self.old.tables ≡ 32 → result ≡ Err TooManyTables }
         ensures full { IfErr result (λ error. (error ≡ OutOfMemory)

@@ -9,8 +9,8 @@ ghost use Rattle.pm_model.specs.Owners.{OwnersAreApart};
 ghost use Rattle.heap_palloc.specs.Choice.{choice_block};
 ghost use Rattle.heap_palloc.specs.Shown.{GainsOne};
 ghost use Rattle.catalog.specs.Creation.{Creation, creation_parts};
-ghost use Rattle.catalog.specs.Entries.{published_tables};
-ghost use Rattle.catalog.specs.Shown.{mended, new_table, HasNames, IsUncreated, IsCreated, MayCreateOn};
+ghost use Rattle.catalog.specs.Entries.{HasNames, published_tables};
+ghost use Rattle.catalog.specs.Shown.{mended, new_table, IsUncreated, IsCreated, MayCreateOn};
 
 /// A creation: its lane and the table slot at the count mended, each image has the tables and the live blocks before, or
 /// those after. After the last action it has those after.
@@ -27,7 +27,7 @@ pub fn creation_law()
     ensures settles { (base : List ℕ) (c : Creation) → MayCreateOn base c → IsCreated base c (finished (creation_parts base c) base) }
     ensures before { (base words : List ℕ) (c : Creation) → MayCreateOn base c → KeepsEntryRules base → OwnersAreApart base →
         IsUncreated base c words → published_tables words ≡ published_tables base }
-    ensures after { (base words : List ℕ) (c : Creation) → MayCreateOn base c → HasNames c → KeepsEntryRules base → OwnersAreApart base →
+    ensures after { (base words : List ℕ) (c : Creation) → MayCreateOn base c → HasNames c.name c.columns → KeepsEntryRules base → OwnersAreApart base →
         IsCreated base c words → published_tables words ≡ published_tables base ++ new_table c ∷ [] }
     ensures clean { (play : Play) (n w : ℕ) (d : Device) → IsPlaying play n [] d → IsTrue (footprint (plan_of play.parts) w) → IsClean d w }
 {}

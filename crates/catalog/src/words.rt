@@ -1,10 +1,12 @@
 // The words of a new table's block, added to a plan.
-ghost use Rattle.std.specs.Prelude.{◌≡◌, ◌+◌, ◌*◌, ◌<◌, ◌≤◌, ◌++◌, [], ◌∷◌, length, replicate};
+ghost use Rattle.std.specs.Prelude.{◌≡◌, ◌+◌, ◌*◌, ◌<◌, ◌≤◌, ◌++◌, [], ◌∷◌, IsTrue, length, replicate};
+ghost use Rattle.mv_model.specs.Name.{is_name};
 ghost use Rattle.pm_model.specs.Plans.{part_actions, plan_of};
 ghost use Rattle.pm_model.specs.Records.{table_words as words_of_table};
 ghost use Rattle.shown_state.specs.Mending.{fill_from};
 ghost use Rattle.shown_state.specs.Packed.{packed_word, packed_words};
 ghost use Rattle.catalog.specs.Creation.{kind_word as word_of_kind, column_record, head_record, table_record};
+ghost use Rattle.catalog.specs.Entries.{HasNames};
 
 use mv_model::{Column, Kind, Name, Shape};
 use pm_model::{Action, COLUMN_WORDS, Place, Plan, TABLE_HEAD_WORDS, column, table_words};
@@ -52,6 +54,7 @@ fn push_words(plan: &mut Plan, first: Place, values: &[u64])
 fn push_head(plan: &mut Plan, block: Place, name: &Name, columns: u64)
     requires place { block.0 + 40 ≤ 4194304 }
     requires room { 40 ≤ plan.old.spare }
+    ensures name { IsTrue (is_name name.now) }
     ensures left { plan.new.left ≡ plan.old.left ++ fill_from block.0 (head_record name.now columns) }
     ensures spare { plan.new.spare + 40 ≡ plan.old.spare }
 {
@@ -68,6 +71,7 @@ fn push_head(plan: &mut Plan, block: Place, name: &Name, columns: u64)
 fn push_column(plan: &mut Plan, first: Place, column: &Column)
     requires place { first.0 + 40 ≤ 4194304 }
     requires room { 40 ≤ plan.old.spare }
+    ensures name { IsTrue (is_name column.now.name) }
     ensures left { plan.new.left ≡ plan.old.left ++ fill_from first.0 (column_record column.now) }
     ensures spare { plan.new.spare + 40 ≡ plan.old.spare }
 {
@@ -84,6 +88,7 @@ fn push_column(plan: &mut Plan, first: Place, column: &Column)
 pub(crate) fn push_table(plan: &mut Plan, block: Place, name: &Name, shape: &Shape)
     requires place { block.0 + words_of_table (length shape.now) ≤ 4194304 }
     requires room { 2 * words_of_table (length shape.now) + 1 ≤ plan.old.spare }
+    ensures names { HasNames name.now shape.now }
     ensures left { plan.new.left ≡ plan.old.left ++ part_actions (fill_from block.0 (table_record name.now shape.now)) }
     ensures spare { plan.old.spare ≤ plan.new.spare + (2 * words_of_table (length shape.now) + 1) }
 {

@@ -1,10 +1,14 @@
-use Rattle.std.proofs.Common.{ap, length, arith}
+use Rattle.std.proofs.Common.{ap, subst, length, arith}
 use Rattle.mv_model.specs.declared.shape.Column.{Column}
 use Rattle.catalog.proofs.Filling.{pushed_column, table_within, table_room, table_end, table_spare}
+use Rattle.catalog.proofs.Named.{named_next}
+use Rattle.catalog.specs.Entries.{HasNames}
 use Rattle.catalog.proofs.words.push_table.Goals as goal
 
 pub loop-number-preserved : goal.loop-number-preserved
 loop-number-preserved c = record {
+  name = c.loop-number.invariant.name;
+  names = named_next c.columns-columns.result.now c.loop-number.number c.index-columns-number.result c.loop-number-test.true c.index-columns-number.is c.push_column.ensures.name c.loop-number.invariant.names;
   left = pushed_column c.args.block.0 c.args.name.now c.columns-columns.result.now c.loop-number.number c.index-columns-number.result c.loop-number-test.true c.index-columns-number.is
       c.args.plan.now.left c.loop-number.plan.left c.push_column.new.plan.left c.column.result.0 c.loop-number.invariant.left c.column.ensures c.push_column.ensures.left;
   spare = omega (arith, c.loop-number.invariant.spare, c.push_column.ensures.spare);
@@ -21,6 +25,12 @@ end_part-requires-clause-room c =
     table_room c.args.block.0 c.args.name.now c.columns-columns.result.now c.args.shape.now c.loop-number.number c.table_words.result c.args.plan.now.left c.loop-number.plan.left
     c.loop-number-test.false c.columns-columns.ensures.columns c.table_words.ensures c.loop-number.invariant.left
     c.loop-number.plan.spare (omega (arith, same, c.requires.room, c.loop-number.invariant.spare, c.loop-number-test.false, c.loop-number.auto.number-end, c.table_words.ensures))
+
+pub returns-clause-names : goal.returns-clause-names
+returns-clause-names c = subst (HasNames c.args.name.now) c.columns-columns.ensures.columns (record {
+  name_is = c.loop-number.invariant.name;
+  columns_are = λ k other lt. c.loop-number.invariant.names k other (omega (arith, lt, c.loop-number-test.false)) lt;
+})
 
 pub returns-clause-left : goal.returns-clause-left
 returns-clause-left c =
