@@ -2,6 +2,7 @@ pub mod Blocks
 pub mod Creating
 pub mod Filled
 pub mod Filling
+pub mod LaneOps
 pub mod Lengths
 pub mod Lists
 pub mod Named

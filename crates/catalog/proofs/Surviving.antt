@@ -30,14 +30,22 @@ use Rattle.heap_palloc.proofs.GivenBack.{cleaned, cleaned_may}
 use Rattle.heap_palloc.proofs.LiveBlocks.{live_blocks-same}
 use Rattle.heap_palloc.proofs.Slots.{descriptor_outside-lane}
 use Rattle.heap_palloc.proofs.Stages.{mended-idle, pointer-some}
-use Rattle.shown_state.specs.Mending.{fill_from, free_table, free_block}
+use Rattle.shown_state.specs.Mending.{fill_from, free_table, free_block, slot_mending}
 use Rattle.shown_state.proofs.OneOwner.{blocks_differ}
 use Rattle.pm_model.specs.Owners.{next_table_slots}
 use Rattle.catalog.specs.Creation.{Creation, new_block, table_record, publishing_parts, creation_parts}
-use Rattle.catalog.specs.Shown.{mended_slot, mended, IsUntouched, IsUncreated, IsCreated, MayCreateOn}
+use Rattle.catalog.specs.Shown.{mended, IsUntouched, IsUncreated, IsCreated, MayCreateOn}
 use Rattle.catalog.proofs.Blocks.{IsChoiceBlock, choice_is_block, IsFreeable, IsFreeing, freeing_is, taken_back}
 use Rattle.catalog.proofs.Creating.{Same, allocates, taken_live, same_heap, published_same, ends_published, creation_plan, record_within}
 use Rattle.catalog.proofs.Filled.{filled-out, filled-word}
+use Rattle.catalog.proofs.LaneOps.{creation_low, steps_mend}
+
+-- the words once a lane was mended, and then the table slot at the count
+abbrev mended_slot : List ℕ → List ℕ
+mended_slot words = finished (slot_mending words) words
+
+abbrev mended_all : ℕ → List ℕ → List ℕ
+mended_all lane words = mended_slot (mended_lane lane words)
 
 each_cut-all : (P : List ℕ → Type 0) → ((image : List ℕ) → P image) → (parts : List Part) (words : List ℕ) → EachCut P parts words
 each_cut-all P all [] words = all words
@@ -345,7 +353,7 @@ module _ (base : List ℕ) (c : Creation) (on : MayCreateOn base c) where
   }
 
   abbrev Mended : List ℕ → Type 0
-  Mended image = IsUncreated base c (mended c.lane image) ⊎ IsCreated base c (mended c.lane image)
+  Mended image = IsUncreated base c (mended_all c.lane image) ⊎ IsCreated base c (mended_all c.lane image)
 
   clean_some : (words : List ℕ) → get_or words slot 0 ≡ pointer_word (new_block c) → ((get_or words slot 0 ≡ 0) ⊎ CleanBehind page pages words) → CleanBehind page pages words
   clean_some words named either = ⊎_elim (λ none. absurd (pointer-some (new_block c) (sym named ∙ none))) (λ clean. clean) either
@@ -362,8 +370,8 @@ module _ (base : List ℕ) (c : Creation) (on : MayCreateOn base c) where
   Either image = (Shows c.lane (table_slot_at (table_count base)) (choice_page c.choice) (choice_pages c.choice) base (live_blocks base) 0 (mended_lane c.lane image))
       ⊎ (Shows c.lane (table_slot_at (table_count base)) (choice_page c.choice) (choice_pages c.choice) base (live_blocks (finished (choice_parts base c.choice) base)) (pointer_word (new_block c)) (mended_lane c.lane image))
 
-  taking_cuts : EachCut (λ image. IsUncreated base c (mended c.lane image) ⊎ IsCreated base c (mended c.lane image)) (choice_parts base c.choice) base
-  taking_cuts = each_cut-map (λ image. Either image × Facts image) (λ image. IsUncreated base c (mended c.lane image) ⊎ IsCreated base c (mended c.lane image)) (choice_parts base c.choice) base
+  taking_cuts : EachCut (λ image. IsUncreated base c (mended_all c.lane image) ⊎ IsCreated base c (mended_all c.lane image)) (choice_parts base c.choice) base
+  taking_cuts = each_cut-map (λ image. Either image × Facts image) (λ image. IsUncreated base c (mended_all c.lane image) ⊎ IsCreated base c (mended_all c.lane image)) (choice_parts base c.choice) base
       (λ image both. ⊎_elim
       (λ before. inl (shows_before (mended_lane c.lane image) before))
       (λ after. inl (taken_uncreated (mended_lane c.lane image) (shows_taken (mended_lane c.lane image) after both.1.0 (clean_some (mended_lane c.lane image) after.word_is both.1.1))))
@@ -440,7 +448,7 @@ module _ (base : List ℕ) (c : Creation) (on : MayCreateOn base c) where
   fill_count image between = between-kept (fill_from (new_block c) (table_record c.name c.columns)) (finished (choice_parts base c.choice) base) image table_count_at between
       (filled-out (new_block c) (table_record c.name c.columns) table_count_at (inl (let high = block_high in omega (arith, high))))
 
-  filling : (image : List ℕ) → IsBetween taken full image → IsUncreated base c (mended c.lane image) ⊎ IsCreated base c (mended c.lane image)
+  filling : (image : List ℕ) → IsBetween taken full image → IsUncreated base c (mended_all c.lane image) ⊎ IsCreated base c (mended_all c.lane image)
   filling image between =
       let same = fill_same image between in
       inl (subst (λ (words : List ℕ). IsUncreated base c (mended_slot words)) (sym (same_mends image same)) (taken_uncreated image (same_taken image same (fill_count image between))))
@@ -492,36 +500,57 @@ module _ (base : List ℕ) (c : Creation) (on : MayCreateOn base c) where
     blocks_are = sym (ap live_blocks (ends_published base on.segments on.one_or_more on.rules c on.may));
   }
 
-  last_mended : mended c.lane last ≡ last
+  last_mended : mended_all c.lane last ≡ last
   last_mended = ap mended_slot (same_mends last last_same) ∙ last_slot
 
-  created : IsUncreated base c (mended c.lane last) ⊎ IsCreated base c (mended c.lane last)
+  created : IsUncreated base c (mended_all c.lane last) ⊎ IsCreated base c (mended_all c.lane last)
   created = inr (subst (IsCreated base c) (sym last_mended) last_created)
 
-  publishing_cuts : EachCut (λ image. IsUncreated base c (mended c.lane image) ⊎ IsCreated base c (mended c.lane image)) (publishing_parts (new_block c) (table_record c.name c.columns) (table_count base)) taken
+  publishing_cuts : EachCut (λ image. IsUncreated base c (mended_all c.lane image) ⊎ IsCreated base c (mended_all c.lane image)) (publishing_parts (new_block c) (table_record c.name c.columns) (table_count base)) taken
   publishing_cuts = (
     filling,
     (
-      cut-one_store (λ image. IsUncreated base c (mended c.lane image) ⊎ IsCreated base c (mended c.lane image)) table_count_at (table_count base + 1) full
+      cut-one_store (λ image. IsUncreated base c (mended_all c.lane image) ⊎ IsCreated base c (mended_all c.lane image)) table_count_at (table_count base + 1) full
           (filling full (between-end (fill_from (new_block c) (table_record c.name c.columns)) (finished (choice_parts base c.choice) base))) created,
       created,
     ),
   )
 
-  pub creation_cuts : EachCut (λ image. IsUncreated base c (mended c.lane image) ⊎ IsCreated base c (mended c.lane image)) (creation_parts base c) base
-  creation_cuts = each_cut-append (λ image. IsUncreated base c (mended c.lane image) ⊎ IsCreated base c (mended c.lane image)) (choice_parts base c.choice)
+  all_cuts : EachCut (λ image. IsUncreated base c (mended_all c.lane image) ⊎ IsCreated base c (mended_all c.lane image)) (creation_parts base c) base
+  all_cuts = each_cut-append (λ image. IsUncreated base c (mended_all c.lane image) ⊎ IsCreated base c (mended_all c.lane image)) (choice_parts base c.choice)
       (publishing_parts (new_block c) (table_record c.name c.columns) (table_count base)) base taking_cuts publishing_cuts
 
   pub creation_gains : GainsOne (live_blocks base) (choice_block c.choice) (live_blocks (finished (creation_parts base c) base))
   creation_gains = subst (λ (xs : List Block). GainsOne (live_blocks base) (choice_block c.choice) xs) (sym (ap live_blocks (ends_published base on.segments on.one_or_more on.rules c on.may) ∙ same_blocks last last_same)) gains
 
-  pub creation_ended : IsCreated base c (finished (creation_parts base c) base) × (mended c.lane (finished (creation_parts base c) base) ≡ finished (creation_parts base c) base)
-  creation_ended =
+  all_ended : IsCreated base c (finished (creation_parts base c) base) × (mended_all c.lane (finished (creation_parts base c) base) ≡ finished (creation_parts base c) base)
+  all_ended =
       let is = sym (ends_published base on.segments on.one_or_more on.rules c on.may) in
-      (subst (IsCreated base c) is last_created, subst (λ (words : List ℕ). mended c.lane words ≡ words) is last_mended)
+      (subst (IsCreated base c) is last_created, subst (λ (words : List ℕ). mended_all c.lane words ≡ words) is last_mended)
 
   pub creation_plays : IsPlan (length base) (creation_parts base c)
   creation_plays = creation_plan base on.segments on.one_or_more on.rules c on.may
+
+  -- ── mended by opening's steps ──
+
+  low_op : (image : List ℕ) → get_or image (lane_op_at c.lane) 0 ≤ 1 → mended c.lane image ≡ mended_all c.lane image
+  low_op image low = steps_mend c.lane image low
+
+  low_cuts : EachCut (λ image. get_or image (lane_op_at c.lane) 0 ≤ 1) (creation_parts base c) base
+  low_cuts = creation_low base c on.may (table_slot_at (table_count base)) on.may.through lane_low (let many = on.one_or_more in omega (arith, many)) idle_slot.0.op block_high
+
+  abbrev Kept : List ℕ → Type 0
+  Kept image = (IsUncreated base c (mended_all c.lane image) ⊎ IsCreated base c (mended_all c.lane image)) × (get_or image (lane_op_at c.lane) 0 ≤ 1)
+
+  pub creation_cuts : EachCut (λ image. IsUncreated base c (mended c.lane image) ⊎ IsCreated base c (mended c.lane image)) (creation_parts base c) base
+  creation_cuts = each_cut-map Kept (λ image. IsUncreated base c (mended c.lane image) ⊎ IsCreated base c (mended c.lane image)) (creation_parts base c) base
+      (λ image both. subst (λ (words : List ℕ). IsUncreated base c words ⊎ IsCreated base c words) (sym (low_op image both.1)) both.0)
+      (each_cut-both (λ image. IsUncreated base c (mended_all c.lane image) ⊎ IsCreated base c (mended_all c.lane image)) (λ image. get_or image (lane_op_at c.lane) 0 ≤ 1) (creation_parts base c) base all_cuts low_cuts)
+
+  pub creation_ended : IsCreated base c (finished (creation_parts base c) base) × (mended c.lane (finished (creation_parts base c) base) ≡ finished (creation_parts base c) base)
+  creation_ended =
+      let low = each_cut-end (λ image. get_or image (lane_op_at c.lane) 0 ≤ 1) (creation_parts base c) base low_cuts in
+      (all_ended.0, low_op (finished (creation_parts base c) base) low ∙ all_ended.1)
 
   -- ── played ──
 

@@ -7,18 +7,14 @@ use Rattle.pm_model.specs.Blocks.{live_blocks}
 use Rattle.pm_model.specs.Tables.{table_count}
 use Rattle.heap_palloc.specs.Calls.{KeepsHeapRules}
 use Rattle.heap_palloc.specs.Choice.{choice_page, choice_pages}
-use Rattle.heap_palloc.specs.Lane.{mended_lane}
 use Rattle.heap_palloc.specs.Law.{IsElsewhere}
-use Rattle.shown_state.specs.Mending.{slot_mending}
+use Rattle.shown_state.specs.Mending.{after_mending, lane_mending, slot_mending}
 use Rattle.catalog.specs.Creation.{Creation, MayCreate, creation_parts, new_block, table_record}
 use Rattle.catalog.specs.Entries.{CatalogTable}
 
--- the words after a lane is mended, and then the table slot at the count: the block that it names is freed through lane 0
-abbrev pub mended_slot : List ℕ → List ℕ
-mended_slot words = finished (slot_mending words) words
-
+-- the words after opening's step of a lane, and then that of the table slot at the count
 abbrev pub mended : ℕ → List ℕ → List ℕ
-mended lane words = mended_slot (mended_lane lane words)
+mended lane words = after_mending slot_mending (after_mending (lane_mending lane) words)
 
 -- a word that neither the creation nor its mending writes
 pub record IsUntouched (base : List ℕ) (c : Creation) (w : ℕ) : Type 0 where

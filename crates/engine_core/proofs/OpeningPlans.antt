@@ -23,12 +23,13 @@ use Rattle.stage_object.specs.Object.{entries_from, entries_in}
 use Rattle.stage_object.proofs.EntryWords.{entries_from-stop, entries_from-next}
 use Rattle.engine_core.specs.LogicalState.{greatest}
 use Rattle.engine_core.specs.ImageRules.{KeepsEntryRules}
-use Rattle.pm_model.specs.Needed.{needed_stores, needed_parts}
+use Rattle.pm_model.specs.Needed.{needed_stores, needed_parts, Stores}
 use Rattle.engine_core.specs.Opening.{Mending, parts_of, undo_entry, undo_part, past_created, last_mending, undo_mending, close_mending, clear_mending, mendings, opening_parts, recovered}
 use Rattle.engine_core.specs.Mended.{AreMended, IsMending, IsTaken, cleared_part, mended_plan, mended_words}
 use Rattle.engine_core.proofs.Greatest.{state, commit, entry}
 use Rattle.engine_core.proofs.ImageRules.{IsEntered, entered, entry-row}
-use Rattle.engine_core.proofs.OpeningStores.{Stores, stores-append, stores-map, needed-whole, after-written, Opens}
+use Rattle.pm_model.proofs.NeededStores.{stores-append, stores-map, needed-whole, after-written}
+use Rattle.engine_core.proofs.OpeningStores.{Opens}
 use Rattle.engine_core.proofs.OpeningTrace.{IsReached}
 use Rattle.engine_core.proofs.OpeningRounds.{opening-opens}
 use Rattle.engine_core.proofs.UndoParts.{undo_entry-stores, entries-stores, stores-run}

@@ -10,7 +10,9 @@ use Rattle.pm_model.proofs.Cuts.{between-end}
 use Rattle.engine_core.specs.Opening.{Mending, last_mending, undo_mending, close_mending, clear_mending, mendings, opening_parts, recovered}
 use Rattle.engine_core.proofs.Greatest.{state, commit, entry}
 use Rattle.engine_core.proofs.ImageRules.{IsEntered}
-use Rattle.engine_core.proofs.OpeningStores.{Stores, stores-append, stores-map, after-written, cut-written, IsStep, Opens, opens-none, opens-next, opens-round}
+use Rattle.pm_model.specs.Needed.{Stores}
+use Rattle.pm_model.proofs.NeededStores.{stores-append, stores-map, after-written, cut-written}
+use Rattle.engine_core.proofs.OpeningStores.{IsStep, Opens, opens-none, opens-next, opens-round}
 use Rattle.engine_core.proofs.OpeningTrace.{IsReached, IsAsBefore, IsIdleNow, IsSettled, SameObject, SameBut, reach-none, reach-objects, stays-beside, undone-beside, settled-beside}
 use Rattle.engine_core.proofs.UndoParts.{footprint-left, footprint-right, stores-run, run-hit}
 use Rattle.engine_core.proofs.OpeningSteps.{Beside, object-only, object-others, IsUndoing, IsClosing, IsClearing, rows-of, length-old, last-step, undo-step, close-step, settled-now}

@@ -18,7 +18,9 @@ use Rattle.engine_core.specs.Opening.{past_created, is_open, undo_entry, undo_pa
 use Rattle.engine_core.specs.Recoverable.{IsUndecided, used_up}
 use Rattle.engine_core.proofs.Greatest.{state, commit, entry, undecided-le, undecided-used, undecided_is, used-le, greatest-same}
 use Rattle.engine_core.proofs.ImageRules.{IsEntered, entry-row}
-use Rattle.engine_core.proofs.OpeningStores.{Stores, stores-append, stores-map, after-written, cut-written, IsStep}
+use Rattle.pm_model.specs.Needed.{Stores}
+use Rattle.pm_model.proofs.NeededStores.{stores-append, stores-map, after-written, cut-written}
+use Rattle.engine_core.proofs.OpeningStores.{IsStep}
 use Rattle.engine_core.proofs.OpeningTrace.{born, ended, IsReached, IsAsBefore, IsIdleNow, IsUndone, IsSettled, SameObject, SameBut, reach-objects, reach-last, reach-stamps, stays-beside, undone-beside, settled-beside}
 use Rattle.engine_core.proofs.UndoParts.{undo_entry-stores, undo_created-hit, undo_ended-hit, entries-stores, entries-hit, footprint-left, footprint-right, set-before, entry_word-same}
 

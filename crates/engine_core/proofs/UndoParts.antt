@@ -16,7 +16,8 @@ use Rattle.engine_core.specs.ImageRules.{dead, is_entry, is_entry_word}
 use Rattle.engine_core.specs.Opening.{undo_entry}
 use Rattle.engine_core.proofs.Greatest.{entry}
 use Rattle.engine_core.proofs.ImageRules.{entry-before}
-use Rattle.engine_core.proofs.OpeningStores.{Stores, stores-append}
+use Rattle.pm_model.specs.Needed.{Stores}
+use Rattle.pm_model.proofs.NeededStores.{stores-append}
 use Rattle.engine_core.proofs.OpeningTrace.{born, ended}
 
 -- ── one entry ──

@@ -1,5 +1,5 @@
 -- Only what is needed is stored: of a plan's parts, the stores that change their word.
-use Rattle.std.specs.Prelude.{ℕ, Bool, false, ◌||◌, ◌==◌, if◌then◌else◌, List, [], ◌∷◌, ◌++◌, slice_index}
+use Rattle.std.specs.Prelude.{ℕ, ◌<◌, Bool, false, ◌||◌, ◌==◌, if◌then◌else◌, List, [], ◌∷◌, ◌++◌, slice_index}
 use Rattle.pm_model.specs.declared.action.Action.{Action}
 use Rattle.pm_model.specs.declared.action.Action.TheVariants.{Store, Flush, Fence, Punch}
 use Rattle.pm_model.specs.Plans.{Part, unless_empty, words_after, footprint}
@@ -30,3 +30,24 @@ needed_parts words [] = []
 needed_parts words (part ∷ parts) =
     let needed = needed_stores words part in
     unless_empty needed ++ needed_parts (words_after needed words) parts
+
+-- ── parts of stores ──
+
+-- a part of stores, of each of which this is so, by its place and value
+abbrev pub Stores : (ℕ → ℕ → Type 0) → Part → Type 0
+Stores Q [] = Unit {0}
+Stores Q (Store place value ∷ part) = Q place.0 value × Stores Q part
+Stores Q (Flush line ∷ part) = ⊥
+Stores Q (Fence ∷ part) = ⊥
+Stores Q (Punch page ∷ part) = ⊥
+
+abbrev pub StoresOfParts : (ℕ → ℕ → Type 0) → List Part → Type 0
+StoresOfParts Q [] = Unit {0}
+StoresOfParts Q (part ∷ parts) = Stores Q part × StoresOfParts Q parts
+
+-- stores in a device of so many words
+abbrev pub AreStores : ℕ → Part → Type 0
+AreStores size part = Stores (λ place value. place < size) part
+
+abbrev pub AllStores : ℕ → List Part → Type 0
+AllStores size parts = StoresOfParts (λ place value. place < size) parts

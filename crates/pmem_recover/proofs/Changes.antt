@@ -6,10 +6,10 @@ use Rattle.std.proofs.lemmas.Bool.{eqb-true, eq-eqb, ne_eqb}
 use Rattle.std.proofs.lemmas.Grind.{flat_map-append}
 use Rattle.pm_model.specs.declared.action.Action.{Action}
 use Rattle.pm_model.specs.Plans.{Part, one_store, unless_empty, words_after, part_actions, plan_of, finished, IsPlan, EachCut}
-use Rattle.pm_model.specs.Needed.{needed_parts}
+use Rattle.pm_model.specs.Needed.{needed_parts, Stores}
 use Rattle.pm_model.proofs.Cuts.{store_part, finished-append, length-finished, plan-append, each_cut-append, each_cut-start}
 use Rattle.pmem_recover.specs.declared.change.Change.{Change}
-use Rattle.pmem_recover.specs.Changes.{change_parts}
+use Rattle.pmem_recover.specs.Changes.{change_part, change_parts}
 
 -- one change, where it is needed
 abbrev pub if_needed : List ℕ → Change → List Part
@@ -28,48 +28,13 @@ needed-one words c parts = by_test (eqb (get_or words c.place.0 0) c.value) (set
     by_test true same = ap (λ (ws : List ℕ). needed_parts ws parts) (sym (same refl))
     by_test false same = refl
 
-pub finished-if_needed : (words : List ℕ) (c : Change) → finished (if_needed words c) words ≡ set words c.place.0 c.value
-finished-if_needed words c = by_test (eqb (get_or words c.place.0 0) c.value) (set-there words c.place.0 c.value)
-  where
-    by_test : (there : Bool) → (there ≡ true → set words c.place.0 c.value ≡ words) → finished (cond there [] (one_store c.place.0 c.value ∷ [])) words ≡ set words c.place.0 c.value
-    by_test true same = sym (same refl)
-    by_test false same = refl
+-- changes are stores
+abbrev pub AnyStore : ℕ → ℕ → Type 0
+AnyStore place value = Unit {0}
 
--- the needed ones leave what all of them leave
-pub needed-finished : (changes : List Change) (words : List ℕ) → finished (needed_parts words (change_parts changes)) words ≡ finished (change_parts changes) words
-needed-finished [] words = refl
-needed-finished (c ∷ changes) words =
-    ap (λ (parts : List Part). finished parts words) (needed-one words c (change_parts changes))
-    ∙ finished-append (if_needed words c) (needed_parts (set words c.place.0 c.value) (change_parts changes)) words
-    ∙ ap (finished (needed_parts (set words c.place.0 c.value) (change_parts changes))) (finished-if_needed words c)
-    ∙ needed-finished changes (set words c.place.0 c.value)
-
--- what each cut of all of them has, each cut of the needed ones has
-pub needed-cuts : (P : List ℕ → Type 0) (changes : List Change) (words : List ℕ) → EachCut P (change_parts changes) words → EachCut P (needed_parts words (change_parts changes)) words
-needed-cuts P [] words cuts = cuts
-needed-cuts P (c ∷ changes) words cuts =
-    subst (λ (parts : List Part). EachCut P parts words) (sym (needed-one words c (change_parts changes)))
-    (each_cut-append P (if_needed words c) (needed_parts (set words c.place.0 c.value) (change_parts changes)) words (by_test (eqb (get_or words c.place.0 0) c.value))
-    (subst (EachCut P (needed_parts (set words c.place.0 c.value) (change_parts changes))) (sym (finished-if_needed words c)) (needed-cuts P changes (set words c.place.0 c.value) cuts.1)))
-  where
-    by_test : (there : Bool) → EachCut P (cond there [] (one_store c.place.0 c.value ∷ [])) words
-    by_test true = each_cut-start P (change_parts (c ∷ changes)) words cuts
-    by_test false = (cuts.0, each_cut-start P (change_parts changes) (set words c.place.0 c.value) cuts.1)
-
--- their places stand in the device, and so they are a plan
-abbrev pub AreWithin : ℕ → List Change → Type 0
-AreWithin size [] = Unit {0}
-AreWithin size (c ∷ changes) = (c.place.0 < size) × AreWithin size changes
-
-pub needed-plan : (size : ℕ) (changes : List Change) (words : List ℕ) → AreWithin size changes → IsPlan size (needed_parts words (change_parts changes))
-needed-plan size [] words within = tt
-needed-plan size (c ∷ changes) words within =
-    subst (IsPlan size) (sym (needed-one words c (change_parts changes)))
-    (plan-append size (if_needed words c) (needed_parts (set words c.place.0 c.value) (change_parts changes)) (by_test (eqb (get_or words c.place.0 0) c.value)) (needed-plan size changes (set words c.place.0 c.value) within.1))
-  where
-    by_test : (there : Bool) → IsPlan size (cond there [] (one_store c.place.0 c.value ∷ []))
-    by_test true = tt
-    by_test false = (store_part size c.place.0 c.value within.0, tt)
+pub change-stores : (part : List Change) → Stores AnyStore (change_part part)
+change-stores [] = tt
+change-stores (c ∷ part) = (tt, change-stores part)
 
 -- one change more at the end
 pub needed-more : (changes : List Change) (c : Change) (words : List ℕ)

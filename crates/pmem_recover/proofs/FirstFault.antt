@@ -5,7 +5,7 @@ use Rattle.pm_model.specs.Checks.{first_fault}
 use Rattle.pm_model.specs.HeapRules.{reserved_rule}
 use Rattle.pm_model.proofs.Faults.{keeps_all}
 use Rattle.pmem_recover.specs.EntryRules.{entry_rules}
-use Rattle.pmem_recover.specs.Lanes.{KeepsLaneRules}
+use Rattle.shown_state.specs.LaneRules.{KeepsLaneRules}
 
 pub entry-lanes : (words : List ℕ) → first_fault entry_rules words ≡ None → KeepsLaneRules words
 entry-lanes words none =

@@ -16,7 +16,7 @@ use Rattle.shown_state.specs.Mending.{free_block}
 use Rattle.pmem_recover.specs.declared.change.Change.{Change}
 use Rattle.pmem_recover.specs.Changes.{change, change_part, change_parts}
 use Rattle.pmem_recover.specs.Lanes.{release}
-use Rattle.pmem_recover.proofs.LaneChanges.{pointer_parts, block_pointer, block_slot}
+use Rattle.shown_state.proofs.LaneMending.{pointer_parts, block_pointer, block_slot}
 
 -- the changes of a freeing: the log of the lane, and then one by one
 abbrev pub log_of : List ℕ → ℕ → List Change

@@ -15,7 +15,7 @@ use Rattle.pm_model.specs.Objects.{entry_places, commit_word, pointer_after, rea
 use Rattle.pm_model.specs.Checks.{Check, check, Keeps}
 use Rattle.pm_model.specs.EntryRules.{objects_rule, object_rule, is_segment_pointer}
 use Rattle.pm_model.proofs.Members.{below-Contains, map-Contains, flat_map-Contains, Contains-there, Contains-here}
-use Rattle.pmem_recover.proofs.LaneChanges.{pointer_parts}
+use Rattle.shown_state.proofs.LaneMending.{pointer_parts}
 
 -- ── places gathered one by one ──
 

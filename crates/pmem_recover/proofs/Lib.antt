@@ -4,8 +4,6 @@ pub mod FirstFault
 pub mod Freeing
 pub mod Gathered
 pub mod LaneChanges
-pub mod Mending
-pub mod NeededStores
 pub mod PartByPart
 pub mod Parts
 pub mod Steps

@@ -9,13 +9,13 @@ use Rattle.pm_model.specs.Plans.{Part, one_store, unless_empty, part_actions, pl
 use Rattle.pm_model.specs.Needed.{needed_stores, needed_parts}
 use Rattle.pmem_recover.specs.declared.change.Change.{Change}
 use Rattle.pmem_recover.specs.Changes.{change_part, change_parts}
-use Rattle.pmem_recover.proofs.Changes.{if_needed, needed-one, finished-more}
+use Rattle.pm_model.proofs.NeededStores.{needed-whole}
+use Rattle.pmem_recover.proofs.Changes.{AnyStore, change-stores, if_needed, needed-one, finished-more}
 use Rattle.pmem_recover.proofs.Parts.{parts-one}
-use Rattle.pmem_recover.proofs.NeededStores.{needed-whole}
 
 -- the first of some parts
 pub needed-first : (words : List ℕ) (part : List Change) (parts : List Part) → needed_parts words (change_part part ∷ parts) ≡ unless_empty (needed_stores words (change_part part)) ++ needed_parts (finished (change_parts part) words) parts
-needed-first words part parts = ap (λ (ws : List ℕ). unless_empty (needed_stores words (change_part part)) ++ needed_parts ws parts) (needed-whole words part ∙ sym (parts-one part words))
+needed-first words part parts = ap (λ (ws : List ℕ). unless_empty (needed_stores words (change_part part)) ++ needed_parts ws parts) (needed-whole AnyStore words (change_part part) (change-stores part) ∙ sym (parts-one part words))
 
 -- the actions of the changes from one on, each a part of its own
 abbrev pub rest_of : List ℕ → List Change → ℕ → List Action

@@ -16,7 +16,7 @@ use Rattle.pm_model.specs.EntryRules.{table_count_rule, table_slot_rule, arrays_
 use Rattle.pm_model.proofs.Members.{below-Contains, map-Contains, flat_map-Contains, filter-Contains, Contains-here, Contains-there, Contains-cons, Contains-nil, Contains-filter}
 use Rattle.pmem_recover.specs.Filled.{is_filled, places_of}
 use Rattle.pmem_recover.specs.Undo.{KeepsUndoRules}
-use Rattle.pmem_recover.proofs.LaneChanges.{pointer_parts}
+use Rattle.shown_state.proofs.LaneMending.{pointer_parts}
 
 module _ (words : List ℕ) (rules : KeepsUndoRules words) where
   -- ── tables ──

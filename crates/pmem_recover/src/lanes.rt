@@ -5,8 +5,10 @@ ghost use Rattle.pm_model.specs.Places.{place_in, is_pointer};
 ghost use Rattle.pm_model.specs.Plans.{plan_of};
 ghost use Rattle.pm_model.specs.Blocks.{is_slot};
 ghost use Rattle.pmem_recover.specs.Changes.{change};
-ghost use Rattle.pmem_recover.specs.Lanes.{release as released_change, lane_parts, KeepsLaneRules};
-ghost use Rattle.pmem_recover.specs.Steps.{IsNext, NoneFrom};
+ghost use Rattle.shown_state.specs.LaneRules.{KeepsLaneRules};
+ghost use Rattle.shown_state.specs.Mending.{lane_mending};
+ghost use Rattle.pmem_recover.specs.Lanes.{release as released_change};
+ghost use Rattle.pmem_recover.specs.Steps.{step_parts, IsNext, NoneFrom};
 
 use crate::change::{CHANGE_ACTIONS, Change, push_needed};
 use crate::layout::{ALLOCATING, FIRST_SLOT, IDLE, SMALL_PAGE};
@@ -28,8 +30,8 @@ pub fn next_lane<M: Memory>(
     from: u32,
 ) -> Result<Option<(u32, Plan)>, NoMemory>
     requires { KeepsLaneRules (M.device mem.now).cached }
-    ensures next { IfOk result (λ found. IfSome found (λ next. IsNext (lane_parts (M.device mem.now).cached) 16 from next.0 next.1.left)) }
-    ensures none { IfOk result (λ found. IsNone found ↔ NoneFrom (lane_parts (M.device mem.now).cached) 16 from) }
+    ensures next { IfOk result (λ found. IfSome found (λ next. IsNext (step_parts lane_mending (M.device mem.now).cached) 16 from next.0 next.1.left)) }
+    ensures none { IfOk result (λ found. IsNone found ↔ NoneFrom (step_parts lane_mending (M.device mem.now).cached) 16 from) }
 {
     for lane in from..u32::from(LANES) {
         if mem.load(lane_op(lane as u8)) != IDLE {
@@ -44,7 +46,7 @@ fn plan_lane<M: Memory>(alloc: Global, mem: &M, lane: u8) -> Result<Plan, NoMemo
     requires rules { KeepsLaneRules (M.device mem.now).cached }
     requires lane { lane < 16 }
     requires at_work { slice_index (M.device mem.now).cached (lane_op_at lane) ≢ 0 }
-    ensures { IfOk result (λ plan. plan.left ≡ plan_of (lane_parts (M.device mem.now).cached lane)) }
+    ensures { IfOk result (λ plan. plan.left ≡ plan_of (step_parts lane_mending (M.device mem.now).cached lane)) }
 {
     let owner = read_pointer(mem, lane_dest(lane));
     let block = read_pointer(mem, lane_block(lane));

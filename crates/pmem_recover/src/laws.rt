@@ -4,19 +4,21 @@ ghost use Rattle.pm_model.specs.declared.action.Action.{Action};
 ghost use Rattle.pm_model.specs.Device.{Device};
 ghost use Rattle.pm_model.specs.Fixed.{lane_op_at};
 ghost use Rattle.pm_model.specs.Checks.{Keeps, Numbered, first_fault};
-ghost use Rattle.pm_model.specs.Plans.{Play, IsPlan, IsPlaying, IsCrashImageWithin, IsTakenBack, EachCut, finished};
+ghost use Rattle.pm_model.specs.Plans.{Play, IsPlan, IsPlaying, IsCrashImageWithin, IsTakenBack, EachCut};
 ghost use Rattle.heap_palloc.specs.Lane.{mended_lane};
-ghost use Rattle.pmem_recover.specs.Lanes.{lane_parts, KeepsLaneRules, MayMend};
+ghost use Rattle.shown_state.specs.LaneRules.{KeepsLaneRules, MayMend};
+ghost use Rattle.shown_state.specs.Mending.{after_mending, lane_mending};
 ghost use Rattle.pmem_recover.specs.EntryRules.{entry_rules};
+ghost use Rattle.pmem_recover.specs.Steps.{step_parts};
 
-/// A law for proofs: the parts that mend a lane leave it mended, and a cut of them is mended to the same words.
+/// A law for proofs: opening's step of a lane leaves it mended, and a cut of the step is mended to the same words.
 pub fn lane_opening_law()
-    ensures plan { (words : List ℕ) (lane : ℕ) → MayMend words lane → IsPlan (length words) (lane_parts words lane) }
-    ensures mends { (words : List ℕ) (lane : ℕ) → MayMend words lane → finished (lane_parts words lane) words ≡ mended_lane lane words }
+    ensures plan { (words : List ℕ) (lane : ℕ) → MayMend words lane → IsPlan (length words) (step_parts lane_mending words lane) }
+    ensures mends { (words : List ℕ) (lane : ℕ) → MayMend words lane → after_mending (lane_mending lane) words ≡ mended_lane lane words }
     ensures idle { (words : List ℕ) (lane : ℕ) → MayMend words lane → slice_index (mended_lane lane words) (lane_op_at lane) ≡ 0 }
-    ensures cuts { (words : List ℕ) (lane : ℕ) → MayMend words lane → EachCut (λ image. mended_lane lane image ≡ mended_lane lane words) (lane_parts words lane) words }
+    ensures cuts { (words : List ℕ) (lane : ℕ) → MayMend words lane → EachCut (λ image. mended_lane lane image ≡ mended_lane lane words) (step_parts lane_mending words lane) words }
     ensures survives { (lane : ℕ) (play : Play) (n : ℕ) (left : List Action) (d : Device) (image base : List ℕ) →
-        IsPlaying play n left d → IsCrashImageWithin play.own d image → IsTakenBack play image base → play.parts ≡ lane_parts base lane → MayMend base lane →
+        IsPlaying play n left d → IsCrashImageWithin play.own d image → IsTakenBack play image base → play.parts ≡ step_parts lane_mending base lane → MayMend base lane →
         mended_lane lane image ≡ mended_lane lane base }
 {}
 

@@ -1,4 +1,5 @@
 pub mod ImageLaws
+pub mod LaneRules
 pub mod LogicalState
 pub mod Mending
 pub mod OpeningLaws

@@ -27,10 +27,13 @@ Mending = List ℕ → List Part
 
 -- ── lanes ──
 
--- the block that begins at a place is allocated no longer: the descriptor of its head or its bit is cleared
+-- the mark of the block that begins at a place without the block: the descriptor of its head or its bit is cleared
+abbrev pub cleared_mark : List ℕ → ℕ → ℕ
+cleared_mark words block = unmarked block (slice_index words (descriptor_at (page_of block))) (slice_index words (mark_at block))
+
+-- the block is allocated no longer
 abbrev pub release_part : List ℕ → ℕ → Part
-release_part words block =
-    one_store (mark_at block) (unmarked block (slice_index words (descriptor_at (page_of block))) (slice_index words (mark_at block)))
+release_part words block = one_store (mark_at block) (cleared_mark words block)
 
 -- By what the lane is at work on, the owner's place and the block's pointer. An allocation whose owner word names the
 -- block is ended, another is taken back, and a freeing is ended.
@@ -188,22 +191,23 @@ mendings =
     ++ map close_mending (below 16)
     ++ map clear_mending (below 16)
 
+-- the words after a mending as opening makes it: of its parts only the stores that are needed, played whole
+abbrev pub after_mending : Mending → List ℕ → List ℕ
+after_mending mending words = finished (needed_parts words (mending words)) words
+
 -- the words that opening has reached, and whether it goes no further
 pub record Reached : Type 0 where
   pub words : List ℕ
   pub stopped : Bool
 
--- the words after a plan, on which the entry rules are tried again
+-- the words that a plan of these parts reached; where it has any, the entry rules are tried again on them
 abbrev pub after_parts : List ℕ → List Part → Reached
-after_parts words [] = record { words = words; stopped = false }
-after_parts words (part ∷ parts) =
-    let reached = finished (part ∷ parts) words in
-    record { words = reached; stopped = not (is_none (entry_fault reached)) }
+after_parts reached [] = record { words = reached; stopped = false }
+after_parts reached (part ∷ parts) = record { words = reached; stopped = not (is_none (entry_fault reached)) }
 
--- only what is needed is stored
 abbrev pub mend_if : Bool → List ℕ → Mending → Reached
 mend_if true words mending = record { words = words; stopped = true }
-mend_if false words mending = after_parts words (needed_parts words (mending words))
+mend_if false words mending = after_parts (after_mending mending words) (needed_parts words (mending words))
 
 -- the words after these, one plan each
 abbrev pub mend : List Mending → Reached → Reached

@@ -4,7 +4,8 @@ use Rattle.pm_model.specs.Fixed.{lane_op_at, lane_dest_at, lane_block_at}
 use Rattle.pm_model.specs.Places.{place_in, is_pointer}
 use Rattle.pm_model.specs.Blocks.{is_slot}
 use Rattle.pmem_recover.specs.Lanes.{release}
-use Rattle.pmem_recover.proofs.LaneChanges.{at_work, block_pointer, block_slot, work-other, planned-freeing, planned-done, planned-undone}
+use Rattle.shown_state.proofs.LaneMending.{at_work, block_pointer, block_slot, work-other}
+use Rattle.pmem_recover.proofs.LaneChanges.{planned-freeing, planned-done, planned-undone}
 use Rattle.pmem_recover.proofs.lanes.plan_lane.Goals as goal
 use Rattle.pmem_recover.proofs.lanes.plan_lane.Goals.{then-load-ne-ALLOCATING, else-load-ne-ALLOCATING+then-load, else-load-ne-ALLOCATING+else-load}
 

@@ -1,5 +1,5 @@
 use Rattle.std.proofs.Common.{◌∙◌, subst}
-use Rattle.pmem_recover.specs.Lanes.{KeepsLaneRules}
+use Rattle.shown_state.specs.LaneRules.{KeepsLaneRules}
 use Rattle.pmem_recover.proofs.FirstFault.{entry-lanes}
 use Rattle.pmem_recover.proofs.tests.next_checked.Goals as goal
 

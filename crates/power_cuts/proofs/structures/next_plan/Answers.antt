@@ -1,7 +1,7 @@
 use Rattle.std.proofs.Common.{ℕ, List, ◌∙◌, subst}
 use Rattle.pm_model.specs.Checks.{Keeps}
 use Rattle.pm_model.specs.EntryRules.{table_slot_rule, objects_rule}
-use Rattle.pmem_recover.specs.Lanes.{KeepsLaneRules}
+use Rattle.shown_state.specs.LaneRules.{KeepsLaneRules}
 use Rattle.pmem_recover.specs.Undo.{KeepsUndoRules}
 use Rattle.pmem_recover.proofs.FirstFault.{entry-lanes}
 use Rattle.power_cuts.proofs.Kept.{keeps_table_slots, keeps_objects, keeps_undo}
