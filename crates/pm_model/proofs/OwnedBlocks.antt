@@ -19,6 +19,7 @@ use Rattle.pm_model.specs.Owners.{names_one, chunk_owner, table_owner, segment_o
 use Rattle.pm_model.proofs.Faults.{Holds}
 use Rattle.pm_model.proofs.Members.{below-Contains, Contains-below, Contains-here, Contains-there, Contains-cons, Contains-nil, Contains-flat_map, flat_map-Contains, Contains-map, map-Contains}
 use Rattle.pm_model.proofs.Heap.{live_blocks_apart}
+use Rattle.pm_model.proofs.TableSlots.{few_tables, one_table, pointer_some}
 use Rattle.pm_model.proofs.OwnersApart.{LiveAt, live_behind, table_fits, chunk_size, all_from, named, table_in, block_in, object_in, table_before_own, table_before_table, table_before_object, object_before_object, chunk_in, segment_in, segment_before, header_in, live_owner, differ}
 
 -- ── rules of one thing out of many ──
@@ -38,36 +39,6 @@ one_array words table header keeps lt is = record {
       (keeps_one words (table_blocks words) (λ block. flat_map (λ at. array_rule at words) (array_headers words block)) (table_block words table) keeps.checks
       (map-Contains (table_block words) (below (table_count words)) table (below-Contains (table_count words) table lt))) is;
 }
-
-pub few_tables : (words : List ℕ) → Keeps words table_count_rule → table_count words ≤ 32
-few_tables words keeps = leb-true (table_count words) 32 (All-contains Holds (table_count_rule words) (check 515 (leb (table_count words) 32)) keeps.checks (Contains-here (check 515 (leb (table_count words) 32)) []))
-
--- a published table's slot names a block with 1 to 16 columns
-pub record IsTable (words : List ℕ) (table : ℕ) : Type 0 where
-  pub some : get_or words (table_slot_at table) 0 ≢ 0
-  pub pointer : is_pointer words (get_or words (table_slot_at table) 0) ≡ true
-  pub least : 1 ≤ get_or words (columns_at (table_block words table)) 0
-  pub most : get_or words (columns_at (table_block words table)) 0 ≤ 16
-
-pointer_some : (words : List ℕ) (word : ℕ) → is_pointer words word ≡ true → word ≢ 0
-pointer_some words word is = nonnull (and_parts (eqb word (pointer_word (place_in word))) _ is).0
-  where
-    nonnull : eqb word (pointer_word (place_in word)) ≡ true → word ≢ 0
-    nonnull same none = let at = eqb-true word (pointer_word (place_in word)) same in omega (arith, at, none)
-
-pub one_table : (words : List ℕ) (table : ℕ) → Keeps words table_count_rule → Keeps words table_slot_rule → table < table_count words → IsTable words table
-unfolding table_slot_rule
-one_table words table counted slots lt =
-    let few = few_tables words counted in
-    let word = get_or words (table_slot_at table) 0 in
-    let columns = get_or words (columns_at (place_in word)) 0 in
-    let holds : is_table_slot words table ≡ true = All-contains Holds (table_slot_rule words) (check (table_slot_at table) (is_table_slot words table)) slots.checks
-    (map-Contains (λ t. check (table_slot_at t) (is_table_slot words t)) (below 32) table (below-Contains 32 table (omega (arith, lt, few)))) in
-    let pointed : is_table_pointer words word ≡ true = sym (cond-true (ltb table (table_count words)) (is_table_pointer words word) _ (lt-ltb table (table_count words) lt)) ∙ holds in
-    let inside = and_parts (is_pointer words word && leb 1 columns && leb columns 16) (is_in_segment (place_in word) (table_words columns)) pointed in
-    let upper = and_parts (is_pointer words word && leb 1 columns) (leb columns 16) inside.0 in
-    let lower = and_parts (is_pointer words word) (leb 1 columns) upper.0 in
-    record { some = pointer_some words word lower.0; pointer = lower.0; least = leb-true 1 columns lower.1; most = leb-true columns 16 upper.1 }
 
 -- the segment with a number below that of the ready ones is named by its pointer
 pub ready_named : (words : List ℕ) (object segment : ℕ) → Keeps words (object_rule object) → segment < ready_count words object → get_or words (segment_pointer_at words object segment) 0 ≢ 0
