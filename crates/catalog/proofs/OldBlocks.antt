@@ -7,24 +7,16 @@ use Rattle.pm_model.specs.Places.{page_of, page_at}
 use Rattle.pm_model.specs.Plans.{finished}
 use Rattle.pm_model.specs.Blocks.{Block, descriptor_of, is_free_page, is_inside, is_small_page, live_blocks}
 use Rattle.pm_model.specs.Tables.{table_count}
-use Rattle.pm_model.proofs.Heap.{live_blocks_apart, page_of_block, stands}
-use Rattle.heap_palloc.specs.Calls.{KeepsHeapRules}
+use Rattle.pm_model.proofs.Heap.{live_blocks_apart}
+use Rattle.pm_model.proofs.OwnersApart.{live_behind}
 use Rattle.heap_palloc.specs.Choice.{Choice, in_page, on_new_page, in_run, choice_block, choice_page, choice_pages, choice_parts, MayMake}
-use Rattle.heap_palloc.specs.Law.{IsElsewhere, IsHeapPage}
-use Rattle.heap_palloc.proofs.Dests.{IsDestPlace, big_heap_page, dest_place, small_heap_page}
+use Rattle.heap_palloc.specs.Law.{IsElsewhere}
+use Rattle.heap_palloc.proofs.Dests.{IsDestPlace, dest_place}
 use Rattle.heap_palloc.proofs.Owners.{allocation_new, more_live}
 use Rattle.catalog.specs.Creation.{Creation, new_block, table_record}
 use Rattle.catalog.specs.Shown.{IsUntouched, MayCreateOn}
 use Rattle.catalog.proofs.Creating.{record_size, taken_live, taken_rules}
 use Rattle.catalog.proofs.Surviving.{gains}
-
--- a live block lies behind the fixed pages
-live_high : (words : List ℕ) → KeepsHeapRules words → (block : Block) → Contains (live_blocks words) block → 2048 ≤ block.first
-live_high words rules block live =
-    let (page, lt, of) = page_of_block words block live in
-    let begins = (stands words rules.reserved rules.descriptors page block lt of).begins in
-    let page_is : IsHeapPage words page = ⊎_elim (λ small. small_heap_page words rules page lt small.small) (λ big. big_heap_page words rules page lt big.big) of in
-    omega (arith, begins, page_is.behind_fixed)
 
 -- a word that may hold a pointer isn't the first one of the page where a block is allocated
 not_first : (base : List ℕ) (choice : Choice) → MayMake base choice → (w : ℕ) → IsDestPlace base w → w ≢ page_at (choice_page choice)
@@ -45,7 +37,7 @@ module _ (base : List ℕ) (c : Creation) (on : MayCreateOn base c) (block : Blo
   dest = dest_place base on.segments on.one_or_more on.rules w (inr (block, live, low, high))
 
   from_here : 2048 ≤ w
-  from_here = let first = live_high base on.rules block live in omega (arith, first, low)
+  from_here = let first = live_behind base on.rules.reserved block live in omega (arith, first, low)
 
   elsewhere : (lane : ℕ) → lane < 16 → IsElsewhere lane (table_slot_at (table_count base)) (choice_page c.choice) (choice_pages c.choice) w
   elsewhere lane lt =

@@ -1,30 +1,23 @@
 -- The published tables of words that show a creation: those before it, and where it is done the new one behind them.
 use Rattle.std.proofs.Common.{◌≡◌, ◌≢◌, ◌⊎◌, inl, ⊎_elim, ℕ, zero, suc, ◌+◌, ◌*◌, ◌/◌, ◌^◌, ◌%◌, ◌<◌, ◌≤◌, true, not, ◌&&◌, eqb, ltb, List, [], ◌∷◌, ◌++◌, length, map, take_while, get_or, refl, sym, ◌∙◌, ap, IsTrue, arith}
-use Rattle.std.specs.Prelude.{Contains}
 use Rattle.std.specs.List.{flat_map, range_with_len}
 use Rattle.std.proofs.lemmas.Bool.{and_parts, eqb-true, ne_eqb}
-use Rattle.std.proofs.lemmas.List.Elements.{All-contains, Contains-append_left}
 use Rattle.mv_model.specs.declared.shape.Column.{Column}
 use Rattle.pm_model.specs.Fixed.{table_count_at, table_slot_at}
-use Rattle.pm_model.specs.Pointer.{pointer_word}
 use Rattle.pm_model.specs.Places.{below, is_pointer, packed_byte, place_in}
-use Rattle.pm_model.specs.Blocks.{Block, block_words, is_live, live_blocks}
 use Rattle.pm_model.specs.Records.{column_at, columns_at, table_name_at, table_words}
 use Rattle.pm_model.specs.Tables.{table_count, table_block, columns_of, is_text}
 use Rattle.pm_model.specs.EntryRules.{KeepsEntryRules}
-use Rattle.pm_model.specs.Owners.{Owner, OwnersAreApart, firm_owners, names_one, new_leaf_owners, object_owners, owner_words, owns_block, table_owner, table_owners, block_owners}
-use Rattle.pm_model.proofs.Members.{below-Contains, Contains-here, flat_map-Contains}
-use Rattle.pm_model.proofs.TableSlots.{slot_pointer, pointer_parts, PointsToTable}
+use Rattle.pm_model.specs.Owners.{OwnersAreApart}
+use Rattle.pm_model.proofs.OwnedBlocks.{table_live}
 use Rattle.heap_palloc.specs.Choice.{choice_page, choice_pages}
 use Rattle.heap_palloc.specs.Law.{IsElsewhere}
 use Rattle.shown_state.specs.LogicalState.{name_at, column_of, kind_of}
-use Rattle.shown_state.proofs.OneOwner.{any_one}
 use Rattle.shown_state.proofs.Walks.{pointers_name_their_place}
 use Rattle.catalog.specs.Entries.{CatalogTable, HasNames, published_table, published_tables}
 use Rattle.catalog.specs.Creation.{Creation, new_block, table_record}
 use Rattle.catalog.specs.Shown.{IsCreated, IsUncreated, IsUntouched, KeepsUntouched, MayCreateOn, new_table}
 use Rattle.catalog.proofs.Filling.{length-table_record}
-use Rattle.catalog.proofs.Lengths.{block_room}
 use Rattle.catalog.proofs.Lists.{column_same, map_next}
 use Rattle.catalog.proofs.OldBlocks.{old_word}
 use Rattle.catalog.proofs.ReadBack.{HasNameBytes, name_bytes, table_name_back, columns_back}
@@ -108,48 +101,6 @@ table_same old new table slot each =
     (ap (λ (b : ℕ). map (column_of new) (columns_of new b)) here ∙ block_columns_same old new (table_block old table) each)
     here
 
--- ── the block of a published table is live ──
-
-pub record HasTableBlock (words : List ℕ) (table : ℕ) : Type 0 where
-  pub block : Block
-  pub live : Contains (live_blocks words) block
-  pub first_is : block.first ≡ table_block words table
-  pub room : table_words (get_or words (table_block words table) 0) ≤ block.words
-
-module _ (words : List ℕ) (keeps : KeepsEntryRules words) (apart : OwnersAreApart words) (table : ℕ) (few : table < 32) (published : table < table_count words) where
-  points : PointsToTable words (get_or words (table_slot_at table) 0)
-  points = pointer_parts words (get_or words (table_slot_at table) 0) (slot_pointer words keeps.table_slots table few published)
-
-  word_is : get_or words (table_slot_at table) 0 ≡ pointer_word (table_block words table)
-  word_is = eqb-true (get_or words (table_slot_at table) 0) (pointer_word (table_block words table)) (and_parts (eqb (get_or words (table_slot_at table) 0) (pointer_word (table_block words table))) (ltb (table_block words table) (length words)) points.pointer).0
-
-  owner : Owner
-  owner = table_owner words table
-
-  is_owner : Contains (firm_owners words) (table_owner words table)
-  unfolding owner_words
-  is_owner = Contains-append_left (flat_map (table_owners words) (below (table_count words)) ++ flat_map (object_owners words) (below 16)) (new_leaf_owners words) (table_owner words table)
-      (Contains-append_left (flat_map (table_owners words) (below (table_count words))) (flat_map (object_owners words) (below 16)) (table_owner words table)
-      (flat_map-Contains (table_owners words) (below (table_count words)) table (table_owner words table) (below-Contains (table_count words) table published)
-      (Contains-here (table_owner words table) (block_owners words (table_block words table)))))
-
-  owns : owns_block words (table_owner words table) ≡ true
-  owns = All-contains (λ (o : Owner). IsTrue (names_one words o) → IsTrue (owns_block words o)) (firm_owners words) (table_owner words table) apart.firm is_owner (some (get_or words (table_slot_at table) 0) (table_block words table) word_is)
-    where
-      some : (word place : ℕ) → word ≡ pointer_word place → not (eqb word 0) ≡ true
-      some word place is = ap not (ne_eqb word 0 (λ e. omega (arith, is, e)))
-
-  pub table_block_live : HasTableBlock words table
-  table_block_live =
-      let size = table_words (get_or words (table_block words table) 0) in
-      let place = table_block words table in
-      let parts = and_parts (is_pointer words (get_or words (table_slot_at table) 0)) (is_live words place (block_words size)) owns in
-      let (block, live, same) = any_one (λ b. eqb b.first place && eqb b.words (block_words size)) (live_blocks words) parts.1 in
-      let both = and_parts (eqb block.first place) (eqb block.words (block_words size)) same in
-      let words_are : block.words ≡ block_words size = eqb-true block.words (block_words size) both.1 in
-      let room = block_room size (let some = points.some in omega (arith, some)) in
-      record { block = block; live = live; first_is = eqb-true block.first place both.0; room = omega (arith, words_are, room) }
-
 -- ── the tables before, and after ──
 
 module _ (base : List ℕ) (c : Creation) (on : MayCreateOn base c) (keeps : KeepsEntryRules base) (apart : OwnersAreApart base) (words : List ℕ) (kept : KeepsUntouched base c words) where
@@ -170,11 +121,10 @@ module _ (base : List ℕ) (c : Creation) (on : MayCreateOn base c) (keeps : Kee
 
   old_table : (table : ℕ) → table < table_count base → published_table words table ≡ published_table base table
   old_table table lt =
-      let few : table < 32 = let most = on.may.count in omega (arith, lt, most) in
-      let has = table_block_live base keeps apart table few lt in
+      let has = table_live base keeps.reserved keeps.descriptors keeps.table_count keeps.table_slots apart table lt in
       table_same base words table (kept.each (table_slot_at table) (old_slot table lt))
-      (λ k within. kept.each (table_block base table + k) (old_word base c on has.block has.live (table_block base table + k)
-      (omega (arith, has.first_is)) (omega (arith, has.first_is, has.room, within)) (lane_low base c on)))
+      (λ k within. kept.each (table_block base table + k) (old_word base c on has.live.block has.live.live (table_block base table + k)
+      (omega (arith, has.live.first)) (omega (arith, has.live.first, has.live.size, has.holds, within)) (lane_low base c on)))
 
   pub old_tables : map (published_table words) (below (table_count base)) ≡ published_tables base
   old_tables = same_below (published_table words) (published_table base) (table_count base) old_table

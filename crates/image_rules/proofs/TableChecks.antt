@@ -33,4 +33,4 @@ module _ (words : List ℕ) where
   pub is_block : (word : ℕ) → length words % 32768 ≡ 0 → is_table_pointer words word ≡ true → IsTableBlock words (place_in word)
   is_block word whole pointed =
       let points = pointer_parts words word pointed in
-      record { some = points.some; most = points.most; within = table_in_image words word whole points }
+      record { some = points.least; most = points.most; within = table_in_image words word whole points }

@@ -21,7 +21,7 @@ use Rattle.pm_model.proofs.Faults.{Holds}
 use Rattle.pm_model.proofs.Members.{below-Contains, Contains-below, Contains-here, Contains-there, Contains-cons, Contains-nil, Contains-flat_map, flat_map-Contains, Contains-map, map-Contains}
 use Rattle.pm_model.proofs.ChunkSizes.{capacity_next, chunk_below}
 use Rattle.pm_model.proofs.Heap.{live_blocks_apart}
-use Rattle.pm_model.proofs.TableSlots.{count_most, slot_pointer, pointer_parts}
+use Rattle.pm_model.proofs.TableSlots.{few_tables, one_table, pointer_some}
 use Rattle.pm_model.proofs.OwnersApart.{LiveAt, live_behind, table_fits, chunk_size, all_from, named, table_in, block_in, object_in, table_before_own, table_before_table, table_before_object, object_before_object, chunk_in, segment_in, segment_before, header_in, live_owner, differ}
 
 -- ── rules of one thing out of many ──
@@ -41,26 +41,6 @@ one_array words table header keeps lt is = record {
       (keeps_one words (table_blocks words) (λ block. flat_map (λ at. array_rule at words) (array_headers words block)) (table_block words table) keeps.checks
       (map-Contains (table_block words) (below (table_count words)) table (below-Contains (table_count words) table lt))) is;
 }
-
--- a published table's slot names a block with 1 to 16 columns
-pub record IsTable (words : List ℕ) (table : ℕ) : Type 0 where
-  pub some : get_or words (table_slot_at table) 0 ≢ 0
-  pub pointer : is_pointer words (get_or words (table_slot_at table) 0) ≡ true
-  pub least : 1 ≤ get_or words (columns_at (table_block words table)) 0
-  pub most : get_or words (columns_at (table_block words table)) 0 ≤ 16
-
-pointer_some : (words : List ℕ) (word : ℕ) → is_pointer words word ≡ true → word ≢ 0
-pointer_some words word is = nonnull (and_parts (eqb word (pointer_word (place_in word))) _ is).0
-  where
-    nonnull : eqb word (pointer_word (place_in word)) ≡ true → word ≢ 0
-    nonnull same none = let at = eqb-true word (pointer_word (place_in word)) same in omega (arith, at, none)
-
-pub one_table : (words : List ℕ) (table : ℕ) → Keeps words table_count_rule → Keeps words table_slot_rule → table < table_count words → IsTable words table
-one_table words table counted slots lt =
-    let word = get_or words (table_slot_at table) 0 in
-    let few = count_most words counted in
-    let points = pointer_parts words word (slot_pointer words slots table (omega (arith, lt, few)) lt) in
-    record { some = pointer_some words word points.pointer; pointer = points.pointer; least = points.some; most = points.most }
 
 -- the segment with a number below that of the ready ones is named by its pointer
 pub ready_named : (words : List ℕ) (object segment : ℕ) → Keeps words (object_rule object) → segment < ready_count words object → get_or words (segment_pointer_at words object segment) 0 ≢ 0
@@ -170,7 +150,7 @@ module _ (words : List ℕ) (reserved : Keeps words reserved_rule) (known : Keep
 
   pub tables_differ : (table other : ℕ) → table < other → other < table_count words → table_block words table ≢ table_block words other
   tables_differ table other order lt =
-      let few = count_most words counted in
+      let few = few_tables words counted in
       differ words reserved known apart (table_owner words table) (table_owner words other) (table_before_table words table other order lt)
       (named words (table_owner words table) (one_table words table counted slots (omega (arith, order, lt))).some)
       (named words (table_owner words other) (one_table words other counted slots lt).some)

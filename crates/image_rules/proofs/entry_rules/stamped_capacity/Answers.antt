@@ -1,11 +1,11 @@
 use Rattle.std.proofs.Common.{ℕ, ◌≤◌, get_or, sym, ◌∙◌, ap, subst, arith}
 use Rattle.pm_model.specs.Records.{created_header, ended_header}
 use Rattle.image_rules.proofs.ArrayChecks.{table_kept, created_kept, ended_kept}
-use Rattle.pm_model.proofs.TableSlots.{count_most}
+use Rattle.pm_model.proofs.TableSlots.{few_tables}
 use Rattle.image_rules.proofs.entry_rules.stamped_capacity.Goals as goal
 
 pub table_block-block-requires-clause-table : goal.table_block-block-requires-clause-table
-table_block-block-requires-clause-table c = let most = count_most c.args.words.now c.requires.tables in omega (arith, most, c.requires.published)
+table_block-block-requires-clause-table c = let most = few_tables c.args.words.now c.requires.tables in omega (arith, most, c.requires.published)
 
 pub capacity-created-requires-clause-rule : goal.capacity-created-requires-clause-rule
 capacity-created-requires-clause-rule c =
