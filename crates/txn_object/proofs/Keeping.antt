@@ -1,20 +1,19 @@
 -- What stays where only an object's state, its commit word and its entries change: its rule, the heap, and what planning an
 -- extension relies on.
-use Rattle.std.proofs.Common.{◌≡◌, ◌≢◌, inl, ⊎_elim, ℕ, ◌+◌, ◌-◌, ◌/◌, ◌%◌, ◌*◌, ◌^◌, ◌<◌, ◌≤◌, min, true, not, leb, List, length, get_or, sym, ◌∙◌, ap, subst, arith}
+use Rattle.std.proofs.Common.{◌≡◌, ◌≢◌, inl, ⊎_elim, ℕ, ◌+◌, ◌-◌, ◌^◌, ◌<◌, ◌≤◌, min, true, not, leb, List, length, get_or, sym, ◌∙◌, ap, subst, arith}
 use Rattle.std.specs.Prelude.{Contains}
 use Rattle.std.proofs.lemmas.Bool.{and_parts}
 use Rattle.pm_model.specs.Fixed.{state_at, commit_word_at, ready_at, last_at, lane_op_at, entry_at, descriptor_at}
-use Rattle.pm_model.specs.Places.{page_at, page_count, place_in}
+use Rattle.pm_model.specs.Places.{page_at, place_in}
 use Rattle.pm_model.specs.Blocks.{Block, says_small, descriptor_of, is_inside, is_small_page, live_blocks}
-use Rattle.pm_model.specs.Objects.{commit_word, ready_count, segment_pointer_at, segment_of, pointer_after, entry_places}
+use Rattle.pm_model.specs.Objects.{commit_word, ready_count, segment_pointer_at, segment_of, entry_places}
 use Rattle.heap_palloc.specs.Index.{HeapIndex, IsIndexOf}
-use Rattle.heap_palloc.specs.Calls.{KeepsHeapRules}
 use Rattle.heap_palloc.proofs.Dests.{small_heap_page}
 use Rattle.heap_palloc.proofs.LiveBlocks.{SameHeap, inside_from, is_inside-same, is_small_page-same, live_blocks-same}
 use Rattle.heap_palloc.proofs.Reindex.{runs_of, runs_kept}
 use Rattle.heap_palloc.proofs.Rooms.{free-same, room-same, rooms_kept}
-use Rattle.txn_object.specs.Extension.{segment_block, HasSegments, IsNoSegment}
-use Rattle.txn_object.specs.Shown.{HasObject, IsOutside}
+use Rattle.txn_object.specs.Extension.{segment_block, HasSegments}
+use Rattle.txn_object.specs.Shown.{HasObject}
 use Rattle.txn_object.specs.Calls.{next_pointer, MayPlanExtension}
 use Rattle.txn_object.proofs.Frames.{SameFrame, pointer_same, segment_same, ready_pointers_same, frame_object, pointer_not_low, entry_not_fixed, entry_not_pointer, place_cases}
 use Rattle.txn_object.proofs.Taken.{taken}

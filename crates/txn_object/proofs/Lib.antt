@@ -12,6 +12,7 @@ pub mod Readying
 pub mod Retire
 pub mod Rule
 pub mod Runs
+pub mod Sound
 pub mod Spared
 pub mod Taken
 pub mod TestEntries

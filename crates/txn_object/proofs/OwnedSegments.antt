@@ -12,7 +12,7 @@ use Rattle.heap_palloc.specs.Index.{HeapIndex, IsIndexOf}
 use Rattle.txn_object.specs.Calls.{MayPlanExtension}
 use Rattle.txn_object.specs.Extension.{HasSegments, segment_block}
 
-segment_is_live : (words : List ℕ) (place : ℕ) → LiveAt words place 256 → Contains (live_blocks words) (segment_block place)
+pub segment_is_live : (words : List ℕ) (place : ℕ) → LiveAt words place 256 → Contains (live_blocks words) (segment_block place)
 segment_is_live words place at =
     let same : at.block ≡ segment_block place = λ i. record { first = at.first i; words = at.size i } in
     subst (λ (block : Block). Contains (live_blocks words) block) same at.live

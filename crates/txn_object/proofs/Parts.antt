@@ -1,9 +1,9 @@
 -- A begin and an entry before other parts, and what goes on to hold at each cut of a begin, an entry and a retire.
-use Rattle.std.proofs.Common.{◌≡◌, ◌≢◌, ◌⊎◌, inl, inr, ⊎_elim, ℕ, ◌+◌, ◌-◌, ◌^◌, ◌<◌, ◌≤◌, min, Bool, true, false, leb, List, [], ◌∷◌, ◌++◌, length, map, get_or, set, refl, sym, ◌∙◌, ap, subst, arith}
+use Rattle.std.proofs.Common.{◌≡◌, ◌≢◌, ◌⊎◌, inl, inr, ⊎_elim, ℕ, ◌+◌, ◌-◌, ◌^◌, ◌<◌, ◌≤◌, min, Bool, true, false, leb, List, [], ◌∷◌, ◌++◌, length, get_or, set, refl, sym, ◌∙◌, ap, subst, arith}
 use Rattle.std.proofs.lemmas.Bool.{le-leb, both_ways}
 use Rattle.std.proofs.lemmas.List.{get_or-set_same, get_or-set_other, length-set, length-map, length-append}
-use Rattle.pm_model.specs.Fixed.{state_at, commit_word_at, last_at, entry_at}
-use Rattle.pm_model.specs.Plans.{Part, one_store, finished, EachCut}
+use Rattle.pm_model.specs.Fixed.{state_at, commit_word_at, last_at}
+use Rattle.pm_model.specs.Plans.{Part, finished, EachCut}
 use Rattle.pm_model.specs.Objects as objects
 use Rattle.pm_model.specs.Objects.{commit_word, entry_places}
 use Rattle.pm_model.proofs.Cuts.{cut-one_store, each_cut-map, each_cut-end}
@@ -17,7 +17,7 @@ use Rattle.txn_object.specs.Shown.{Transaction, Shows, HasObject, MayEnter, IsCl
 use Rattle.txn_object.specs.Spared.{SparesObject}
 use Rattle.txn_object.proofs.Rule.{state_ok, commit_ok}
 use Rattle.txn_object.proofs.Frames.{frame_places, entry_not_fixed}
-use Rattle.txn_object.proofs.Entering.{state_frame, state_object, state_shows, entry_frame, fixed_kept, entry_object, entry_shows, entry_packed}
+use Rattle.txn_object.proofs.Entering.{state_frame, state_shows, entry_frame, fixed_kept, entry_object, entry_shows, entry_packed}
 use Rattle.txn_object.proofs.Places.{length-entry_places}
 use Rattle.txn_object.proofs.Retire.{retire_each, retire_free, retire_none, frame}
 use Rattle.txn_object.proofs.Spared.{spared_shows, frame_own}

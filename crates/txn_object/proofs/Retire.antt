@@ -2,7 +2,7 @@
 use Rattle.std.proofs.Common.{◌≡◌, ◌≢◌, ◌⊎◌, inl, inr, ⊎_elim, ℕ, zero, suc, ◌+◌, ◌<◌, ◌≤◌, Bool, true, false, cond, eqb, List, [], ◌∷◌, ◌++◌, length, take, map, get_or, set, refl, sym, ◌∙◌, ap, subst, arith}
 use Rattle.std.proofs.lemmas.Bool.{cases_lt, cases_Bool, both_ways, eq-eqb, eqb-true, or_left, or_right, or_cases}
 use Rattle.std.proofs.lemmas.List.{get_or-set_same, get_or-set_other, length-set, length-append, length-map, length-take-le, get_or-take, get_or_append_left, get_or-append-add, get_or-map, map-append}
-use Rattle.pm_model.specs.Fixed.{state_at, commit_word_at, ready_at, first_segment_at}
+use Rattle.pm_model.specs.Fixed.{state_at, commit_word_at, ready_at}
 use Rattle.pm_model.specs.Device.{IsBetween}
 use Rattle.pm_model.specs.Plans.{Part, store, stores, words_after, finished, EachCut, IsPart, IsPlan}
 use Rattle.pm_model.specs.Objects as objects

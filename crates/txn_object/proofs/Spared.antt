@@ -1,11 +1,11 @@
 -- What an object shows depends on its own words alone.
-use Rattle.std.proofs.Common.{◌≡◌, ◌≢◌, ℕ, ◌+◌, ◌<◌, ◌≤◌, false, List, [], ◌∷◌, length, map, get_or, refl, sym, ◌∙◌, ap, subst, arith}
+use Rattle.std.proofs.Common.{◌≡◌, ℕ, ◌+◌, ◌<◌, ◌≤◌, false, List, [], ◌∷◌, length, map, get_or, refl, sym, ◌∙◌, ap, subst, arith}
 use Rattle.pm_model.specs.Fixed.{state_at, last_at}
-use Rattle.pm_model.specs.Plans.{Part, plan_of, part_actions, part_end, words_after, footprint, finished, EachCut}
-use Rattle.pm_model.specs.Objects.{ready_count, segment_pointer_at, entry_places}
+use Rattle.pm_model.specs.Plans.{Part, plan_of, part_actions, part_end, words_after, footprint, EachCut}
+use Rattle.pm_model.specs.Objects.{ready_count, entry_places}
 use Rattle.pm_model.proofs.Alone.{length-words_after}
 use Rattle.pm_model.proofs.PlanLaw.{footprint-append, words_after-kept}
-use Rattle.pm_model.proofs.Cuts.{between-kept, each_cut-end}
+use Rattle.pm_model.proofs.Cuts.{between-kept}
 use Rattle.txn_object.specs.Entries.{entry_of}
 use Rattle.txn_object.specs.Object.{NoEntryFollowsZero}
 use Rattle.txn_object.specs.Shown.{Transaction, Shows, HasObject}

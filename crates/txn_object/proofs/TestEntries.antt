@@ -1,5 +1,5 @@
 -- What the tests of a whole transaction rest on.
-use Rattle.std.proofs.Common.{◌≡◌, inl, ℕ, ◌+◌, ◌-◌, ◌*◌, ◌%◌, ◌^◌, ◌<◌, ◌≤◌, min, true, leb, List, [], ◌∷◌, ◌++◌, length, get_or, set, refl, sym, ◌∙◌, ap, subst, append-nil, arith}
+use Rattle.std.proofs.Common.{◌≡◌, inl, ℕ, ◌+◌, ◌-◌, ◌^◌, ◌<◌, ◌≤◌, min, true, List, [], ◌∷◌, ◌++◌, length, get_or, set, sym, ◌∙◌, ap, subst, append-nil, arith}
 use Rattle.std.proofs.lemmas.Bool.{le-leb}
 use Rattle.std.proofs.lemmas.List.{get_or-set_same, get_or-set_other, length-set, length-map}
 use Rattle.pm_model.specs.declared.action.Action.{Action}
@@ -12,7 +12,7 @@ use Rattle.heap_palloc.specs.Index.{HeapIndex}
 use Rattle.txn_object.specs.declared.entry.Entry.{Entry}
 use Rattle.txn_object.specs.declared.entry.EntryKind.TheVariants.{Created}
 use Rattle.txn_object.specs.Entries.{entry_word, entry_of}
-use Rattle.txn_object.specs.Object.{begin_parts, entry_part, retire_parts, entries_in, NoEntryFollowsZero}
+use Rattle.txn_object.specs.Object.{begin_parts, entry_part, retire_parts, NoEntryFollowsZero}
 use Rattle.txn_object.specs.Shown.{HasObject, MayEnter}
 use Rattle.txn_object.specs.Calls.{MayPlanExtension}
 use Rattle.txn_object.specs.TestObject.{IsExtendable, HasEntries}

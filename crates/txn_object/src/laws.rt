@@ -6,6 +6,7 @@ ghost use Rattle.pm_model.specs.Fixed.{last_at, state_at, commit_word_at};
 ghost use Rattle.pm_model.specs.Plans.{Part, Play, IsPlaying, IsPlan, EachCut, finished, footprint, one_store, plan_of, words_after};
 ghost use Rattle.pm_model.specs.Blocks.{live_blocks};
 ghost use Rattle.pm_model.specs.Objects.{entry_places, pointer_after};
+ghost use Rattle.pm_model.specs.SoundRules.{IsSound};
 ghost use Rattle.heap_palloc.specs.Lane.{mended_lane};
 ghost use Rattle.heap_palloc.specs.Shown.{GainsOne};
 ghost use Rattle.txn_object.specs.declared.entry.Entry.{Entry};
@@ -132,6 +133,9 @@ pub fn extension_law()
     ensures goes_on { (base : List ℕ) (e : Extension) (index : HeapIndex) → MayExtend base e → IsIndexOf (finished (extension_parts base e) base) index →
         MayPlanExtension (finished (extension_parts base e) base) index e.object }
     ensures object { (words : List ℕ) (object : ℕ) → object < 16 → 2048 ≤ length words → length words % 32768 ≡ 0 → HasSegments words object → HasObject words object }
+
+    // In a sound image it may be planned of each object.
+    ensures sound { (words : List ℕ) (index : HeapIndex) (object : ℕ) → object < 16 → IsSound words → IsIndexOf words index → MayPlanExtension words index object }
 {}
 
 /// A retire, for a plan that ends with it: until its first part is fenced the words are the old ones or the object is idle,
