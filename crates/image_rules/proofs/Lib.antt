@@ -1,8 +1,6 @@
 pub mod ArrayChecks
 pub mod BlockSizes
 pub mod BuiltOwners
-pub mod Capacities
-pub mod ChunkSizes
 pub mod DistinctChecks
 pub mod EntryChecks
 pub mod Faults

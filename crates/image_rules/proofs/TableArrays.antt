@@ -11,7 +11,7 @@ use Rattle.pm_model.specs.Tables.{table_count, table_block, column_headers, colu
 use Rattle.pm_model.specs.Checks.{Check, check, Keeps, first_failing}
 use Rattle.pm_model.specs.EntryRules.{arrays_rule}
 use Rattle.pm_model.proofs.Faults.{all_hold, first_failing-none}
-use Rattle.image_rules.specs.Stamps.{table_arrays_rule}
+use Rattle.image_rules.specs.Parts.{table_arrays_rule}
 use Rattle.image_rules.proofs.ArrayChecks.{table_kept}
 use Rattle.image_rules.proofs.Firsts.{flat_part, none-head, none-append, map_holds, flat_map-flat_map}
 

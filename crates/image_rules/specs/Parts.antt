@@ -5,7 +5,8 @@ use Rattle.pm_model.specs.Fixed.{commit_word_at, state_at}
 use Rattle.pm_model.specs.Places.{below, is_null_or_pointer_to}
 use Rattle.pm_model.specs.Records.{column_name_at, columns_at, table_name_at, table_words}
 use Rattle.pm_model.specs.Objects.{entry_places, segment_pointer_at}
-use Rattle.pm_model.specs.Tables.{columns_of}
+use Rattle.pm_model.specs.Arrays.{array_rule}
+use Rattle.pm_model.specs.Tables.{array_headers, columns_of}
 use Rattle.pm_model.specs.Checks.{Check, Rule, check}
 use Rattle.pm_model.specs.EntryRules.{is_segment_pointer, kind_check, name_checks}
 use Rattle.pm_model.specs.SoundRules.{zero_check}
@@ -22,6 +23,10 @@ pub record IsTableBlock (words : List ℕ) (block : ℕ) : Type 0 where
   pub some : 1 ≤ slice_index words (columns_at block)
   pub most : slice_index words (columns_at block) ≤ 16
   pub within : block + table_words (slice_index words (columns_at block)) ≤ length words
+
+-- 10, of the arrays of one table
+abbrev pub table_arrays_rule : ℕ → Rule
+table_arrays_rule block words = flat_map (λ header. array_rule header words) (array_headers words block)
 
 -- a column's kind and name
 abbrev pub column_name_checks : List ℕ → ℕ → List Check

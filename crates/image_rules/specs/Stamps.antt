@@ -1,15 +1,9 @@
 -- The checks of stamps by the places where they stand.
 use Rattle.std.specs.Prelude.{ℕ, Bool, nat_lt, if◌then◌else◌, Option, None, Some, List, [], ◌∷◌, ◌++◌, slice_index}
-use Rattle.std.specs.List.{flat_map}
 use Rattle.pm_model.specs.Places.{place_in}
-use Rattle.pm_model.specs.Arrays.{array_rule, chunk_count, chunk_pointer_at}
-use Rattle.pm_model.specs.Tables.{array_headers}
-use Rattle.pm_model.specs.Checks.{Check, check, Rule}
+use Rattle.pm_model.specs.Arrays.{chunk_count, chunk_pointer_at}
+use Rattle.pm_model.specs.Checks.{Check, check}
 use Rattle.pm_model.specs.SoundRules.{is_created, is_ended}
-
--- the rule of arrays, of those of one table
-abbrev pub table_arrays_rule : ℕ → Rule
-table_arrays_rule block words = flat_map (λ header. array_rule header words) (array_headers words block)
 
 -- where a chunk of an array begins, if it is published
 abbrev pub chunk_place : List ℕ → ℕ → ℕ → Option ℕ

@@ -1,24 +1,18 @@
 // The rule of arrays.
 ghost use Rattle.std.specs.Prelude.{◌≡◌, ◌+◌, ◌%◌, ◌<◌, ◌≤◌, length, slice_index};
 ghost use Rattle.std.specs.List.{flat_map};
-ghost use Rattle.pm_model.specs.Arrays.{array_rule, chunk_words as words_of_chunk, is_chunk_pointer as chunk_pointer_holds, capacity as capacity_at};
-ghost use Rattle.pm_model.specs.Tables.{array_headers, column_headers};
+ghost use Rattle.pm_model.specs.Arrays.{array_rule, is_chunk_pointer as chunk_pointer_holds, capacity as capacity_at};
+ghost use Rattle.pm_model.specs.Tables.{column_headers};
 ghost use Rattle.pm_model.specs.Checks.{Keeps, first_failing};
 ghost use Rattle.pm_model.specs.EntryRules.{arrays_rule, table_count_rule, table_slot_rule};
-ghost use Rattle.image_rules.specs.Parts.{IsTableBlock};
+ghost use Rattle.image_rules.specs.Parts.{IsTableBlock, table_arrays_rule};
 
 use crate::pointers::{is_null_or_words, pointed_words};
 use crate::table_rules::{columns_of, published_tables, table_block};
 use pm_model::{
-    PAGE_WORDS, Place, chunk_pointer, codes_header, column, created_header, dictionary_header,
-    ended_header,
+    MAX_CHUNKS, Place, chunk_capacity, chunk_pointer, chunk_words, codes_header, column,
+    created_header, dictionary_header, ended_header,
 };
-
-// How many chunks an array has at most.
-const MAX_CHUNKS: u32 = 12;
-
-// The pages of a chunk double up to this one.
-const LAST_DOUBLING: u32 = 5;
 
 /// The first word of an array's header that breaks the rule of arrays: the number of its chunks, or a pointer to one.
 /// Tables are tried in ascending order; in each the arrays of the rows' stamps, and then those of each column.
@@ -43,7 +37,7 @@ fn table_arrays_fault(words: &[u64], block: Place) -> Option<u32>
     requires segments { length words.now % 32768 ≡ 0 }
     requires most { length words.now ≤ 4194304 }
     requires block { IsTableBlock words.now block.0 }
-    ensures { result ≡ first_failing (flat_map (λ header. array_rule header words.now) (array_headers words.now block.0)) }
+    ensures { result ≡ first_failing (table_arrays_rule block.0 words.now) }
 {
     let created = array_fault(words, created_header(block));
     if created.is_some() {
@@ -110,14 +104,6 @@ fn is_chunk_pointer(words: &[u64], count: u64, chunk: u32, pointer: u64) -> bool
     }
 }
 
-/// The words of a chunk.
-pub fn chunk_words(chunk: u32) -> u32
-    ensures words { result ≡ words_of_chunk chunk }
-    ensures most { result ≤ 16384 }
-{
-    PAGE_WORDS << chunk.min(LAST_DOUBLING)
-}
-
 /// How many words of an array are published.
 pub fn capacity(words: &[u64], header: Place) -> u32
     requires most { length words.now ≤ 4194304 }
@@ -126,9 +112,5 @@ pub fn capacity(words: &[u64], header: Place) -> u32
     ensures words { result ≡ capacity_at words.now header.0 }
     ensures most { result ≤ 130560 }
 {
-    let mut capacity = 0;
-    for chunk in 0..words[header.0 as usize] as u32 {
-        capacity += chunk_words(chunk);
-    }
-    capacity
+    chunk_capacity(words[header.0 as usize] as u32)
 }

@@ -8,7 +8,6 @@
 #![tactic(auto)]
 
 mod array_rules;
-mod chunks;
 mod distinct_rules;
 mod entry_rules;
 mod first_words;
@@ -25,7 +24,7 @@ mod rest_rules;
 mod stamp_rules;
 mod table_rules;
 
-pub use array_rules::{arrays_fault, capacity, chunk_words};
+pub use array_rules::{arrays_fault, capacity};
 pub use distinct_rules::distinct_name_fault;
 pub use entry_rules::{entries_fault, next_segment, ready_count};
 pub use first_words::{last_fault, magic_fault, version_fault};

@@ -7,18 +7,15 @@ ghost use Rattle.pm_model.specs.Checks.{Keeps};
 ghost use Rattle.pm_model.specs.EntryRules.{table_count_rule, table_slot_rule, objects_rule};
 ghost use Rattle.image_rules.specs.BuiltOwners.{as_read, built_column_owners, built_table_owners, built_owner_words};
 
-use crate::array_rules::chunk_words;
 use crate::entry_rules::{next_segment, ready_count};
 use crate::table_rules::{columns_of, published_tables, table_block};
 use heap_small::{class_for, class_words};
 use pm_model::{
-    ENTRY_SEGMENT_WORDS, NoMemory, OBJECTS, PAGE_WORDS, Place, chunk_pointer, codes_header, column,
-    created_header, dictionary_header, ended_header, segment_pointer, table_slot, table_words,
+    ENTRY_SEGMENT_WORDS, MAX_CHUNKS, NoMemory, OBJECTS, PAGE_WORDS, Place, chunk_pointer,
+    chunk_words, codes_header, column, created_header, dictionary_header, ended_header,
+    segment_pointer, table_slot, table_words,
 };
 use std::alloc::Global;
-
-// How many chunks an array has at most.
-const MAX_CHUNKS: u32 = 12;
 
 /// An owner word: its place, what it holds, and how many words the block has that its owner needs.
 #[derive(Clone, Copy)]

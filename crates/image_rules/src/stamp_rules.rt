@@ -6,15 +6,15 @@ ghost use Rattle.pm_model.specs.Records.{created_header as created_at, ended_hea
 ghost use Rattle.pm_model.specs.Checks.{Keeps, first_failing};
 ghost use Rattle.pm_model.specs.EntryRules.{arrays_rule, table_count_rule, table_slot_rule};
 ghost use Rattle.pm_model.specs.SoundRules.{is_commit as commit_holds, is_created as created_holds, is_ended as ended_holds, row_checks, row_headers, stamp_checks, stamp_rule};
-ghost use Rattle.image_rules.specs.Parts.{IsTableBlock};
-ghost use Rattle.image_rules.specs.Stamps.{chunk_place, place_checks, stamp_of, table_arrays_rule};
+ghost use Rattle.image_rules.specs.Parts.{IsTableBlock, table_arrays_rule};
+ghost use Rattle.image_rules.specs.Stamps.{chunk_place, place_checks, stamp_of};
 
 use crate::array_rules::capacity;
-use crate::chunks::{chunk_capacity, chunk_words};
 use crate::pointers::pointed_words;
 use crate::table_rules::{columns_of, published_tables, table_block};
 use pm_model::{
-    Place, chunk_pointer, codes_header, column, created_header, ended_header, high, last_commit,
+    Place, chunk_capacity, chunk_pointer, chunk_words, codes_header, column, created_header,
+    ended_header, high, last_commit,
 };
 
 // What a row that is dead has for its creator.
