@@ -1,5 +1,5 @@
 -- Where owner words are apart, the owner's word of a lane at work may hold a block's pointer.
-use Rattle.std.proofs.Common.{◌≡◌, ◌≢◌, inl, inr, ℕ, ◌<◌, not, eqb, List, get_or}
+use Rattle.std.proofs.Common.{◌≢◌, inl, inr, ℕ, ◌<◌, not, eqb, List, get_or}
 use Rattle.std.specs.Prelude.{Contains}
 use Rattle.std.proofs.lemmas.Bool.{ne_eqb, not_from_false}
 use Rattle.std.proofs.lemmas.List.Elements.{All-contains}

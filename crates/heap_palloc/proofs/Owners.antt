@@ -1,20 +1,20 @@
 -- Which words own a block: an allocation gives its owner's word one, a freeing takes that away, and each other word owns
 -- what it did.
-use Rattle.std.proofs.Common.{◌≡◌, ◌≢◌, ⊎_elim, ℕ, ◌+◌, ◌-◌, ◌*◌, ◌/◌, ◌%◌, ◌<◌, ◌≤◌, true, false, not, leb, List, ◌∷◌, ◌++◌, get_or, refl, sym, ◌∙◌, ap, subst, arith}
+use Rattle.std.proofs.Common.{◌≡◌, ◌≢◌, ⊎_elim, ℕ, ◌+◌, ◌-◌, ◌*◌, ◌%◌, ◌<◌, ◌≤◌, true, false, not, leb, List, ◌∷◌, refl, sym, ◌∙◌, ap, subst, arith}
 use Rattle.std.specs.Prelude.{Contains}
 use Rattle.std.specs.Int.{bit_at}
-use Rattle.std.proofs.lemmas.Bool.{cases_eq, and_parts, not-true, leb-true}
+use Rattle.std.proofs.lemmas.Bool.{and_parts, not-true, leb-true}
 use Rattle.std.proofs.lemmas.List.Elements.{Contains-append_left, Contains-append_right, Contains-append_cases}
 use Rattle.pm_model.specs.Fixed.{descriptor_at}
 use Rattle.pm_model.specs.Pointer.{pointer_word}
 use Rattle.pm_model.specs.Places.{page_of, page_at}
 use Rattle.pm_model.specs.Plans.{finished}
-use Rattle.pm_model.specs.Blocks.{Block, slot_words, slots_of, slot_at, slot_in, descriptor_of, bitmap_of, class_of, says_small, is_inside, is_free_page, is_small_page, live_blocks}
+use Rattle.pm_model.specs.Blocks.{Block, slots_of, slot_at, slot_in, descriptor_of, bitmap_of, class_of, says_small, is_inside, live_blocks}
 use Rattle.pm_model.proofs.Heap.{IsSmallOf, IsBigOf, page_of_block, small_class, big_pages, stands, live_blocks_apart}
 use Rattle.pm_model.proofs.Members.{Contains-there, Contains-cons}
 use Rattle.heap_palloc.specs.Parts.{allocation_parts}
 use Rattle.heap_palloc.specs.Shown.{GainsOne}
-use Rattle.heap_palloc.specs.Law.{IsElsewhere, KeepsElsewhere, Shows, IsHeapPage, IsIdle, Slot, Pages, pages_allocation}
+use Rattle.heap_palloc.specs.Law.{IsElsewhere, KeepsElsewhere, Shows, IsHeapPage, IsIdle, pages_allocation}
 use Rattle.heap_palloc.specs.Choice.{Choice, in_page, on_new_page, in_run, choice_allocation, choice_parts, choice_page, choice_pages, choice_block, MayMake, Freed, of_slot, of_pages, freed_allocation, freed_parts, freed_page, freed_pages, freed_block, MayRelease}
 use Rattle.heap_palloc.specs.Calls.{KeepsHeapRules, OwnsBlock}
 use Rattle.heap_palloc.proofs.Slots.{IsSlotPlace, slot_place, descriptor_outside-lane}

@@ -1,17 +1,15 @@
 -- A formatted image keeps the heap's rules, and so does each plan.
-use Rattle.std.proofs.Common.{◌≡◌, ◌≢◌, ◌⊎◌, inl, inr, ⊎_elim, ℕ, ◌+◌, ◌-◌, ◌*◌, ◌/◌, ◌%◌, ◌^◌, ◌<◌, ◌≤◌, Bool, true, false, not, ◌&&◌, ◌||◌, eqb, ltb, leb, cond, List, [], length, get_or, map, set, refl, sym, ◌∙◌, ap, subst, arith}
+use Rattle.std.proofs.Common.{◌≡◌, ◌≢◌, ◌⊎◌, inl, inr, ⊎_elim, ℕ, ◌+◌, ◌-◌, ◌/◌, ◌%◌, ◌^◌, ◌<◌, ◌≤◌, Bool, true, false, not, ◌&&◌, eqb, ltb, leb, List, get_or, map, set, sym, ◌∙◌, ap, subst, arith}
 use Rattle.std.specs.Prelude.{◌==◌, Contains, All, IsTrue}
-use Rattle.std.specs.List.{filter}
-use Rattle.std.specs.Int.{bit_at}
-use Rattle.std.proofs.lemmas.Bool.{cases_Bool, cases_eq, cases_lt, both_ways, not-true, not_from_true, not_from_false, and_parts, and_from, and_left, and_right, or_cases, or_parts, or_left, or_right, or_from, eqb-true, eq-eqb, eqb-false, ne_eqb, ltb-true, ltb-false, lt-ltb, le-ltb, le-leb, leb-true, lt-leb, cond-true, cond-false, false_from_ne_true}
+use Rattle.std.proofs.lemmas.Bool.{cases_Bool, cases_eq, cases_lt, both_ways, not-true, and_parts, and_from, or_cases, or_parts, or_left, or_right, or_from, eqb-true, eq-eqb, eqb-false, ne_eqb, ltb-true, ltb-false, lt-ltb, le-ltb, le-leb, cond-true, cond-false, false_from_ne_true}
 use Rattle.std.proofs.lemmas.List.Elements.{All-contains, All-map, Contains-get_or}
 use Rattle.std.proofs.lemmas.Nat.{or_lt, xor_lt, pow_pos}
 use Rattle.std.proofs.Math.Pow.{pow-lt}
 use Rattle.pm_model.specs.Fixed.{descriptor_at}
-use Rattle.pm_model.specs.Places.{below, page_of, page_at, page_count}
+use Rattle.pm_model.specs.Places.{below, page_at, page_count}
 use Rattle.pm_model.specs.Plans.{finished}
-use Rattle.pm_model.specs.Blocks.{slots_of, descriptor_of, says_small, says_big, inside_at, is_inside, is_small_page, is_reserved, class_of, bitmap_of}
-use Rattle.pm_model.specs.Checks.{Check, check, Keeps}
+use Rattle.pm_model.specs.Blocks.{slots_of, descriptor_of, says_small, says_big, is_inside, is_small_page, is_reserved, class_of, bitmap_of}
+use Rattle.pm_model.specs.Checks.{Check, check}
 use Rattle.pm_model.specs.HeapRules.{reserved_rule, descriptor_rule, bitmap_rule, is_descriptor}
 use Rattle.pm_model.specs.Fresh.{fresh_word, fresh_words, is_reserved_descriptor}
 use Rattle.pm_model.proofs.FreshImage.{length-fresh_words, get_or-fresh_words}
@@ -22,8 +20,8 @@ use Rattle.heap_palloc.specs.Parts.{allocation_parts, new_page_allocation_parts,
 use Rattle.heap_palloc.specs.Law.{IsHeapPage, IsSmallPage, Slot, slot_allocation, taking, taken, Pages, pages_allocation, MayTakeSlot, MayTakeNewSlot, MayTakeRun, MayFreeSlot, MayFreePages}
 use Rattle.heap_palloc.specs.Choice.{Choice, in_page, on_new_page, in_run, choice_parts, MayMake, Freed, of_slot, of_pages, freed_parts, MayRelease}
 use Rattle.heap_palloc.specs.Calls.{KeepsHeapRules}
-use Rattle.heap_palloc.proofs.LiveBlocks.{is_inside-same, is_small_page-same, OnePage}
-use Rattle.heap_palloc.proofs.BigBlocks.{HeadsRun, inside_elsewhere, inside_run, no_small_old, no_small_new, old_low}
+use Rattle.heap_palloc.proofs.LiveBlocks.{is_inside-same, OnePage}
+use Rattle.heap_palloc.proofs.BigBlocks.{HeadsRun, inside_elsewhere, inside_run, no_small_new, old_low}
 use Rattle.heap_palloc.proofs.BigPlans.{take_heads, freed_heads}
 use Rattle.heap_palloc.proofs.GivenBack.{Forgets, cleaned, cleaned_forgets, cleaned_may, forgets_inside_same, forgets_bitmap_same, take_run_words}
 use Rattle.heap_palloc.proofs.SlotPlans.{take_one, take_bitmap, take_descriptor, slot_clear, free_words, free_one, free_bitmap, free_descriptor}

@@ -1,11 +1,11 @@
 -- A plan that is played whole on a device of which every word is clean.
-use Rattle.std.proofs.Common.{◌≡◌, ◌⊎◌, inl, inr, ℕ, zero, suc, ◌+◌, ◌*◌, ◌/◌, ◌<◌, ◌≤◌, true, List, [], ◌∷◌, ◌++◌, length, take, drop, get_or, refl, sym, ◌∙◌, ap, subst, arith}
+use Rattle.std.proofs.Common.{◌≡◌, inl, ℕ, zero, suc, ◌+◌, ◌*◌, ◌/◌, ◌<◌, ◌≤◌, true, List, [], ◌∷◌, length, take, drop, get_or, refl, sym, ◌∙◌, ap, subst, arith}
 use Rattle.std.specs.Prelude.{Contains, Result, Ok, IfOk}
 use Rattle.std.proofs.lemmas.List.Elements.{Contains-append_right}
 use Rattle.pm_model.specs.declared.action.Action.{Action}
 use Rattle.pm_model.specs.Device.{Device, IsClean, IsWhole}
 use Rattle.pm_model.specs.Pointer.{pointer_word}
-use Rattle.pm_model.specs.Plans.{Part, Play, IsPlan, IsPlayable, IsPlaying, MayBegin, MayPlay, HasEnded, plan_of, finished, run, at_rest}
+use Rattle.pm_model.specs.Plans.{Part, Play, IsPlan, IsPlaying, MayPlay, HasEnded, plan_of, finished, run, at_rest}
 use Rattle.pm_model.specs.Places.{page_of, page_at}
 use Rattle.pm_model.specs.Blocks.{Block, slot_words, slots_of, slot_at, live_blocks}
 use Rattle.pm_model.proofs.Heap.{slot_fits}
@@ -15,9 +15,8 @@ use Rattle.pm_model.proofs.Members.{Contains-here}
 use Rattle.pm_model.proofs.PlanLaw.{plan_begins, plan_may_play, plan_plays_on, plan_ends, size_start}
 use Rattle.pm_model.proofs.Words.{ext_words}
 use Rattle.heap_palloc.specs.Shown.{GainsOne}
-use Rattle.heap_palloc.specs.Law.{Allocates}
 use Rattle.heap_palloc.specs.Index.{HeapIndex, IsIndexOf}
-use Rattle.heap_palloc.specs.Choice.{choice_parts, choice_block, choice_allocation, in_page, on_new_page, in_run, Choice, IsThrough, IsChosen, MayMake, freed_parts, freed_named}
+use Rattle.heap_palloc.specs.Choice.{choice_parts, choice_block, in_page, on_new_page, in_run, Choice, IsThrough, IsChosen, MayMake, freed_parts, freed_named}
 use Rattle.heap_palloc.specs.Calls.{KeepsHeapRules, MayCall, IsPlanned, IsReleased, OwnsBlock, IsSettled}
 use Rattle.heap_palloc.proofs.Changes.{change_settles}
 use Rattle.heap_palloc.proofs.Slots.{slot_place}

@@ -1,5 +1,5 @@
 -- Opening leaves a sound image as it is.
-use Rattle.std.proofs.Common.{◌≡◌, ⊎_elim, ℕ, zero, suc, ◌-◌, ◌<◌, true, false, ◌&&◌, ltb, eqb, max, List, [], ◌∷◌, ◌++◌, get_or, map, refl, sym, ◌∙◌, ap, subst, IsTrue, arith}
+use Rattle.std.proofs.Common.{◌≡◌, ⊎_elim, ℕ, zero, suc, ◌-◌, ◌<◌, true, false, ◌&&◌, ltb, eqb, max, List, [], ◌∷◌, ◌++◌, get_or, map, refl, sym, ◌∙◌, ap, subst, arith}
 use Rattle.std.specs.Prelude.{Contains, All, fold, slice_get}
 use Rattle.std.specs.List.{flat_map, range_with_len}
 use Rattle.std.specs.Option.{option_map_or}
@@ -27,10 +27,8 @@ use Rattle.pm_model.specs.Needed.{is_there, is_stored_later, needed_stores, need
 use Rattle.shown_state.specs.Mending.{Mending, lane_mending, at_column, split_parts, split_mending, free_table, slot_mending, free_text, text_mending, last_mending, undo_mending, close_mending, clear_mending, mendings, mend, reached_by_opening}
 use Rattle.shown_state.specs.OpeningLaws.{FormattedIsRecoverable, FormattedShowsNothing, SoundIsRecoverable, SoundIsRecovered}
 use Rattle.shown_state.proofs.FormattedImage.{formatted_is_sound}
-use Rattle.pm_model.specs.Places.{place_in, is_pointer}
-use Rattle.pm_model.specs.Blocks.{live_blocks}
-use Rattle.pm_model.specs.Owners.{owner_words, OwnersAreApart}
 use Rattle.pm_model.specs.Records.{split_leaf_at, new_leaf_at, dictionary_header}
+use Rattle.pm_model.proofs.SoundApart.{sound_apart}
 
 formatted_nothing : (segments : ℕ) → logical_state (formatted segments) ≡ empty
 unfolding logical_state first_segment
@@ -223,29 +221,10 @@ unfolding reached_by_opening
 sound_is_recovered words sound = ap (λ reached. reached.words) (idle_mends words mendings (all_idle words sound))
 
 pub sound_is_recoverable : SoundIsRecoverable
-sound_is_recoverable words sound apart =
+sound_is_recoverable words sound =
     let same = sound_is_recovered words sound in
     let S : List ℕ → Type 0 = λ w. IsSound w in
-    record { entry = sound.entry; sound = subst S (sym same) sound; shown = ap logical_state same; apart = apart }
-
-formatted_apart : (segments : ℕ) → OwnersAreApart (formatted segments)
-unfolding first_segment owner_words
-formatted_apart segments = record {
-  firm = λ k d lt. absurd (nothing k lt);
-  unfinished = All-cons (λ at. (get_or (formatted segments) at 0 ≡ 0 → ⊥) → IsTrue (is_pointer (formatted segments) (get_or (formatted segments) at 0)) × Contains (map (λ block. block.first) (live_blocks (formatted segments))) (place_in (get_or (formatted segments) at 0))) 520 [] (λ not_null. absurd (not_null refl)) (All-nil _);
-  apart = λ i j d before lt. absurd (one i j before lt);
-  targets = λ k d lt. absurd (nothing k lt);
-  lanes = λ i j d before lt. absurd (nothing j lt);
-  alone = λ k d lt. absurd (nothing k lt);
-}
-  where
-    nothing : (k : ℕ) → k < 0 → ⊥
-    nothing k lt = omega arith
-
-    one : (i j : ℕ) → i < j → j < 1 → ⊥
-    one i j before lt = omega arith
+    record { entry = sound.entry; sound = subst S (sym same) sound; shown = ap logical_state same; apart = sound_apart words sound }
 
 pub formatted_is_recoverable : FormattedIsRecoverable
-formatted_is_recoverable segments some =
-    let A : List ℕ → Type 0 = λ words. OwnersAreApart words in
-    sound_is_recoverable (fresh_words segments) (formatted_is_sound segments some) (subst A (formatted_is_fresh segments some) (formatted_apart segments))
+formatted_is_recoverable segments some = sound_is_recoverable (fresh_words segments) (formatted_is_sound segments some)

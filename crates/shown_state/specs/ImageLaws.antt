@@ -5,7 +5,7 @@ use Rattle.pm_model.specs.Places.{place_in}
 use Rattle.pm_model.specs.Trees.{leaves_from, AreLeavesFrom, stored_leaves}
 use Rattle.pm_model.specs.Tables.{all_columns}
 use Rattle.pm_model.specs.Checks.{Keeps}
-use Rattle.pm_model.specs.Owners.{EachBlockHasOneOwner}
+use Rattle.pm_model.specs.Owners.{EachBlockHasOneOwner, OwnersAreApart}
 use Rattle.pm_model.specs.Records.{first_leaf_at}
 use Rattle.pm_model.specs.EntryRules.{tree_rule}
 use Rattle.pm_model.specs.SoundRules.{IsSound}
@@ -18,6 +18,10 @@ FormattedIsSound = (segments : ℕ) → 0 < segments → IsSound (fresh_words se
 -- in a sound image each live block has one owner
 abbrev pub SoundHasOwners : Type 0
 SoundHasOwners = (words : List ℕ) → IsSound words → EachBlockHasOneOwner words
+
+-- the owner words of a sound image are apart
+abbrev pub SoundIsApart : Type 0
+SoundIsApart = (words : List ℕ) → IsSound words → OwnersAreApart words
 
 -- a pointer word names its place
 abbrev pub PointersNameTheirPlace : Type 0

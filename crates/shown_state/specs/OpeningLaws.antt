@@ -3,7 +3,6 @@ use Rattle.std.specs.Prelude.{◌≡◌, ℕ, ◌<◌, List}
 use Rattle.mv_model.specs.State.{empty}
 use Rattle.pm_model.specs.SoundRules.{IsSound}
 use Rattle.pm_model.specs.Fresh.{fresh_words}
-use Rattle.pm_model.specs.Owners.{OwnersAreApart}
 use Rattle.shown_state.specs.LogicalState.{logical_state}
 use Rattle.shown_state.specs.Mending.{recovered}
 use Rattle.shown_state.specs.Recoverable.{IsRecoverable}
@@ -16,9 +15,9 @@ FormattedShowsNothing = (segments : ℕ) → 0 < segments → logical_state (fre
 abbrev pub SoundIsRecovered : Type 0
 SoundIsRecovered = (words : List ℕ) → IsSound words → recovered words ≡ words
 
--- a sound image whose owner words are apart is recoverable, and a formatted one is
+-- a sound image is recoverable, and so a formatted one is
 abbrev pub SoundIsRecoverable : Type 0
-SoundIsRecoverable = (words : List ℕ) → IsSound words → OwnersAreApart words → IsRecoverable words
+SoundIsRecoverable = (words : List ℕ) → IsSound words → IsRecoverable words
 
 abbrev pub FormattedIsRecoverable : Type 0
 FormattedIsRecoverable = (segments : ℕ) → 0 < segments → IsRecoverable (fresh_words segments)

@@ -1,5 +1,5 @@
 // What the definitions of an image's words have to do with one another, and what opening leaves as it is.
-ghost use Rattle.shown_state.specs.ImageLaws.{FormattedIsSound, PointersNameTheirPlace, SoundHasOwners, StoredLeavesAreWhole, WalksAreWhole};
+ghost use Rattle.shown_state.specs.ImageLaws.{FormattedIsSound, PointersNameTheirPlace, SoundHasOwners, SoundIsApart, StoredLeavesAreWhole, WalksAreWhole};
 ghost use Rattle.shown_state.specs.OpeningLaws.{FormattedIsRecoverable, FormattedShowsNothing, SoundIsRecoverable, SoundIsRecovered};
 
 /// A formatted image is sound.
@@ -7,9 +7,10 @@ pub fn formatted_law()
     ensures { FormattedIsSound }
 {}
 
-/// In a sound image each live block has one owner.
+/// In a sound image each live block has one owner, and owner words are apart.
 pub fn owner_law()
-    ensures { SoundHasOwners }
+    ensures owners { SoundHasOwners }
+    ensures apart { SoundIsApart }
 {}
 
 /// Pointers name their place, and a walk of enough steps reaches all leaves that there are.
@@ -19,8 +20,7 @@ pub fn walk_law()
     ensures leaves { StoredLeavesAreWhole }
 {}
 
-/// A formatted image shows no table, opening changes no word of a sound image, and a sound image whose owner words are
-/// apart is recoverable.
+/// A formatted image shows no table, opening changes no word of a sound image, and a sound image is recoverable.
 pub fn opening_law()
     ensures formatted { FormattedShowsNothing }
     ensures sound { SoundIsRecovered }
