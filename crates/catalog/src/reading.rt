@@ -6,7 +6,7 @@ ghost use Rattle.pm_model.specs.Places.{below, is_pointer, packed_byte, place_in
 ghost use Rattle.pm_model.specs.Records.{column_at, column_name_at, columns_at, table_words};
 ghost use Rattle.pm_model.specs.Tables.{columns_of, table_count as count_of_tables};
 ghost use Rattle.shown_state.specs.LogicalState.{column_of, name_at};
-ghost use Rattle.catalog.specs.Entries.{ShowsTable, ShowsTables, published_table, published_tables};
+ghost use Rattle.catalog.specs.Entries.{KeepsTableRules, ShowsTable, published_table, published_tables};
 
 use crate::tables::{Catalog, Table};
 use arrayvec::ArrayVec;
@@ -25,7 +25,7 @@ const TEXT: u64 = 2;
 
 /// The catalog of the published tables of these words. It takes the room for every table, so `published` takes none.
 pub fn rebuild<M: Memory>(alloc: Global, mem: &M) -> Result<Catalog, NoMemory>
-    requires { ShowsTables (M.device mem.now).cached }
+    requires { KeepsTableRules (M.device mem.now).cached }
     ensures tables { IfOk result (λ catalog. catalog.tables ≡ published_tables (M.device mem.now).cached) }
     ensures planned { IfOk result (λ catalog. catalog.planned ≡ None) }
 {
