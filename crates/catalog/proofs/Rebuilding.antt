@@ -26,7 +26,7 @@ use Rattle.pm_model.proofs.Heap.{Holds}
 use Rattle.pm_model.proofs.Members.{below-Contains, Contains-here, Contains-there, Contains-cons, Contains-nil, map-Contains}
 use Rattle.pm_model.proofs.OwnedBlocks.{keeps_one}
 use Rattle.pm_model.proofs.OwnersApart.{all_from}
-use Rattle.pm_model.proofs.TableSlots.{few_tables, one_table, table_in_image}
+use Rattle.pm_model.proofs.TableSlots.{one_table, table_in_image}
 use Rattle.shown_state.specs.LogicalState.{name_at, column_of}
 use Rattle.catalog.specs.Entries.{KeepsTableRules, ShowsTable}
 use Rattle.catalog.proofs.Lists.{mapped_count}
@@ -244,11 +244,6 @@ of_table words before (one ∷ blocks) holds block is =
 
 -- ── each table ──
 
--- there are at most 32 tables, and each shows one
-pub record ShowsTables (words : List ℕ) : Type 0 where
-  pub most : table_count words ≤ 32
-  pub each : (table : ℕ) → table < table_count words → ShowsTable words table
-
 module _ (words : List ℕ) (fit : AreWords words) (whole : length words % 32768 ≡ 0) (keeps : KeepsTableRules words) (table : ℕ) (lt : table < table_count words) where
   abbrev block : ℕ
   block = table_block words table
@@ -302,6 +297,3 @@ module _ (words : List ℕ) (fit : AreWords words) (whole : length words % 32768
 -- a sound image keeps the rules
 pub sound_keeps : (words : List ℕ) → IsSound words → KeepsTableRules words
 sound_keeps words sound = record { table_count = sound.entry.table_count; table_slots = sound.entry.table_slots; names = sound.entry.names; distinct_names = sound.names }
-
-pub shows_tables : (words : List ℕ) → AreWords words → length words % 32768 ≡ 0 → KeepsTableRules words → ShowsTables words
-shows_tables words fit whole keeps = record { most = few_tables words keeps.table_count; each = shows_table words fit whole keeps }
