@@ -1,7 +1,7 @@
 -- How many actions the allocation of a table's block has at most.
-use Rattle.std.proofs.Common.{◌≡◌, ⊎_elim, ℕ, zero, suc, ◌+◌, ◌*◌, ◌<◌, ◌≤◌, Bool, true, false, cond, eqb, leb, List, [], ◌∷◌, length, map, get_or, refl, ap, arith, append-nil}
+use Rattle.std.proofs.Common.{◌≡◌, ⊎_elim, ℕ, zero, suc, ◌+◌, ◌*◌, ◌<◌, ◌≤◌, Bool, true, false, cond, eqb, List, [], ◌∷◌, length, map, get_or, refl, ap, arith, append-nil}
 use Rattle.std.specs.List.{range_with_len, filter}
-use Rattle.std.proofs.lemmas.Bool.{cases_lt, lt-ltb, le-ltb, leb-true, cond_both}
+use Rattle.std.proofs.lemmas.Bool.{cases_lt, lt-ltb, le-ltb}
 use Rattle.std.proofs.lemmas.List.{length-append, length-map}
 use Rattle.std.proofs.lemmas.Grind.{flat_map-append}
 use Rattle.pm_model.specs.declared.action.Action.{Action}
@@ -10,7 +10,7 @@ use Rattle.pm_model.specs.Fixed.{descriptor_at, lane_op_at}
 use Rattle.pm_model.specs.Pointer.{pointer_word}
 use Rattle.pm_model.specs.Places.{page_of}
 use Rattle.pm_model.specs.Plans.{Part, plan_of, part_actions, part_end, lines_of, store, one_store, unless_empty}
-use Rattle.pm_model.specs.Blocks.{slot_words, class_for, pages_for, block_words}
+use Rattle.pm_model.specs.Blocks.{slot_words, class_for}
 use Rattle.pm_model.proofs.Lines.{length-lines_of}
 use Rattle.heap_big.specs.declared.run.Run.{Run}
 use Rattle.heap_palloc.specs.Lane.{mark_at}
@@ -117,8 +117,3 @@ chosen_length words runs count (in_run r) few chosen =
     let size : r.pages ≤ 2 = omega (arith, chosen.1, few) in
     let most = taking_length words r.pages (pages_allocation r) in
     omega (arith, most, size)
-
--- so has the block that an owner of so many words needs
-pub block_room : (count : ℕ) → 64 < count → count ≤ block_words count
-block_room count low = cond_both (leb count 256) (slot_words (class_for count)) (512 * pages_for count) (λ (n : ℕ). count ≤ n)
-    (λ few. small_class_for count low (leb-true count 256 few)) (λ many. omega arith)

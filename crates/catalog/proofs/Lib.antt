@@ -11,5 +11,6 @@ pub mod OldBlocks
 pub mod Planning
 pub mod Published
 pub mod ReadBack
+pub mod Rebuilding
 pub mod Surviving
 pub mod Tested

@@ -96,6 +96,23 @@ name_bytes bytes is =
 
 -- ── a name ──
 
+mapped_from : (f : ℕ → ℕ) (a n k : ℕ) → k < n → get_or (map f (range_with_len a n)) k 0 ≡ f (a + k)
+mapped_from f a zero k lt = absurd (omega (arith, lt))
+mapped_from f a (suc n) zero lt = ap f (here a)
+  where
+    here : (x : ℕ) → x ≡ x + 0
+    here x = omega arith
+mapped_from f a (suc n) (suc k) lt = mapped_from f (a + 1) n k (omega (arith, lt)) ∙ ap f (there a k)
+  where
+    there : (x y : ℕ) → x + 1 + y ≡ x + suc y
+    there x y = omega arith
+
+pub mapped_at : (f : ℕ → ℕ) (n k : ℕ) → k < n → get_or (map f (below n)) k 0 ≡ f k
+mapped_at f n k lt = mapped_from f 0 n k lt ∙ ap f (none k)
+  where
+    none : (j : ℕ) → 0 + j ≡ j
+    none j = omega arith
+
 module _ (words : List ℕ) (place : ℕ) (bytes : List ℕ) (known : HasNameBytes bytes) (packed : (k : ℕ) → k < 3 → get_or words (place + k) 0 ≡ packed_word bytes k) where
   packed_back : (byte : ℕ) → byte < 24 → packed_byte words place byte ≡ get_or bytes byte 0
   packed_back byte lt =
@@ -115,23 +132,6 @@ module _ (words : List ℕ) (place : ℕ) (bytes : List ℕ) (known : HasNameByt
 
   read_at : (byte : ℕ) → byte < 24 → get_or read byte 0 ≡ get_or bytes byte 0
   read_at byte lt = mapped_at (packed_byte words place) 24 byte lt ∙ packed_back byte lt
-    where
-      mapped_at : (f : ℕ → ℕ) (n k : ℕ) → k < n → get_or (map f (below n)) k 0 ≡ f k
-      mapped_at f n k in_range = from f 0 n k in_range ∙ ap f (none k)
-        where
-          none : (j : ℕ) → 0 + j ≡ j
-          none j = omega arith
-
-          from : (g : ℕ → ℕ) (a m j : ℕ) → j < m → get_or (map g (range_with_len a m)) j 0 ≡ g (a + j)
-          from g a zero j below_m = absurd (omega (arith, below_m))
-          from g a (suc m) zero below_m = ap g (here a)
-            where
-              here : (x : ℕ) → x ≡ x + 0
-              here x = omega arith
-          from g a (suc m) (suc j) below_m = from g (a + 1) m j (omega (arith, below_m)) ∙ ap g (there a j)
-            where
-              there : (x y : ℕ) → x + 1 + y ≡ x + suc y
-              there x y = omega arith
 
   pub name_back : name_at words place ≡ bytes
   unfolding name_at

@@ -6,21 +6,19 @@ use Rattle.pm_model.specs.declared.action.Action.{Action}
 use Rattle.pm_model.specs.Device.{Device, IsClean, IsWhole}
 use Rattle.pm_model.specs.Fresh.{fresh_words}
 use Rattle.pm_model.specs.Plans.{Part, IsPlan, finished, plan_of}
-use Rattle.pm_model.specs.Tables.{table_count}
-use Rattle.pm_model.proofs.FreshImage.{get_or-fresh_words}
 use Rattle.heap_palloc.specs.Calls.{IsSettled, KeepsHeapRules}
 use Rattle.heap_palloc.specs.Index.{HeapIndex, IsIndexOf}
 use Rattle.heap_palloc.proofs.LiveBlocks.{SameHeap, inside_from, is_inside-same}
 use Rattle.heap_palloc.proofs.RulesKept.{rules_from, rules_at, kept_same}
-use Rattle.catalog.specs.Entries.{CatalogTable, CatalogState, ShowsTables}
+use Rattle.shown_state.proofs.FormattedImage.{formatted_is_sound}
+use Rattle.catalog.specs.Entries.{CatalogTable, CatalogState, KeepsTableRules}
 use Rattle.catalog.specs.Creation.{Creation, creation_parts}
 use Rattle.catalog.specs.Calls.{MayPlanCreation, IsCreationPlanned}
+use Rattle.catalog.proofs.Rebuilding.{sound_keeps}
 use Rattle.catalog.proofs.Creating.{taken_rules, same_heap, published_same, ends_published, creation_plan}
 
-pub fresh_shows : (segments : ℕ) → 0 < segments → ShowsTables (fresh_words segments)
-fresh_shows segments some =
-    let none : table_count (fresh_words segments) ≡ 0 = get_or-fresh_words segments 515 (omega (arith, some)) in
-    record { most = omega (arith, none); each = λ table lt. absurd (omega (arith, lt, none)) }
+pub fresh_keeps : (segments : ℕ) → 0 < segments → KeepsTableRules (fresh_words segments)
+fresh_keeps segments some = sound_keeps (fresh_words segments) (formatted_is_sound segments some)
 
 -- the heap's rules look at its words alone
 rules_same : (old new : List ℕ) → SameHeap old new → KeepsHeapRules old → KeepsHeapRules new

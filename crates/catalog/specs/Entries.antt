@@ -8,6 +8,9 @@ use Rattle.pm_model.specs.Fixed.{table_slot_at}
 use Rattle.pm_model.specs.Places.{below, is_pointer}
 use Rattle.pm_model.specs.Records.{column_at, column_name_at, columns_at, table_name_at, table_words}
 use Rattle.pm_model.specs.Tables.{table_count, table_block, columns_of}
+use Rattle.pm_model.specs.Checks.{Keeps}
+use Rattle.pm_model.specs.EntryRules.{table_count_rule, table_slot_rule, name_rule}
+use Rattle.pm_model.specs.SoundRules.{distinct_name_rule}
 use Rattle.shown_state.specs.LogicalState.{name_at, column_of}
 
 -- a table: its name, its columns, and the place of its block
@@ -48,7 +51,9 @@ pub record ShowsTable (words : List ℕ) (table : ℕ) : Type 0 where
   pub column_names : (column : ℕ) → column < slice_index words (columns_at (table_block words table)) → IsTrue (is_name (name_at words (column_name_at (column_at (table_block words table) column))))
   pub shape : IsTrue (is_shape (map (column_of words) (columns_of words (table_block words table))))
 
--- there are at most 32 of them, and each does
-pub record ShowsTables (words : List ℕ) : Type 0 where
-  pub most : table_count words ≤ 32
-  pub each : (table : ℕ) → table < table_count words → ShowsTable words table
+-- The rules by which the tables are read back: 4, 9, 12 and 30. Every sound image keeps them.
+pub record KeepsTableRules (words : List ℕ) : Type 0 where
+  pub table_count : Keeps words table_count_rule
+  pub table_slots : Keeps words table_slot_rule
+  pub names : Keeps words name_rule
+  pub distinct_names : Keeps words distinct_name_rule

@@ -2,18 +2,18 @@
 ghost use Rattle.std.specs.Prelude.{◌≡◌, ◌+◌, ◌*◌, ◌/◌, ◌%◌, ◌<◌, ◌≤◌, ℕ, IsTrue, IfOk, None, length, map, not, ◌==◌, slice_index, take_while};
 ghost use Rattle.mv_model.specs.Name.{is_name};
 ghost use Rattle.mv_model.specs.Shape.{is_shape};
-ghost use Rattle.pm_model.specs.Places.{below, is_pointer, packed_byte, place_in};
+ghost use Rattle.pm_model.specs.Places.{below, packed_byte};
 ghost use Rattle.pm_model.specs.Records.{column_at, column_name_at, columns_at, table_words};
 ghost use Rattle.pm_model.specs.Tables.{columns_of, table_count as count_of_tables};
 ghost use Rattle.shown_state.specs.LogicalState.{column_of, name_at};
-ghost use Rattle.catalog.specs.Entries.{ShowsTable, ShowsTables, published_table, published_tables};
+ghost use Rattle.catalog.specs.Entries.{KeepsTableRules, ShowsTable, published_table, published_tables};
 
 use crate::tables::{Catalog, Table};
 use arrayvec::ArrayVec;
 use mv_model::{Column, Kind, Name, Shape};
 use pm_model::{
-    Memory, NoMemory, PPtr, Place, column, column_count, column_kind, column_name, table_count,
-    table_name, table_slot,
+    Memory, NoMemory, Place, column, column_count, column_kind, column_name, named_place,
+    table_count, table_name, table_slot,
 };
 use std::alloc::Global;
 
@@ -25,7 +25,7 @@ const TEXT: u64 = 2;
 
 /// The catalog of the published tables of these words. It takes the room for every table, so `published` takes none.
 pub fn rebuild<M: Memory>(alloc: Global, mem: &M) -> Result<Catalog, NoMemory>
-    requires { ShowsTables (M.device mem.now).cached }
+    requires { KeepsTableRules (M.device mem.now).cached }
     ensures tables { IfOk result (λ catalog. catalog.tables ≡ published_tables (M.device mem.now).cached) }
     ensures planned { IfOk result (λ catalog. catalog.planned ≡ None) }
 {
@@ -43,23 +43,12 @@ fn read_table<M: Memory>(mem: &M, table: u8) -> Table
     requires shown { ShowsTable (M.device mem.now).cached table }
     ensures { result ≡ published_table (M.device mem.now).cached table }
 {
-    let block = named(mem, table_slot(table));
+    let block = named_place(mem, table_slot(table));
     Table {
         name: read_name(mem, table_name(block)),
         shape: read_shape(mem, block),
         block,
     }
-}
-
-// The place that the pointer at a place names.
-fn named<M: Memory>(mem: &M, at: Place) -> Place
-    requires at { at.0 < length (M.device mem.now).cached }
-    requires pointer { IsTrue (is_pointer (M.device mem.now).cached (slice_index (M.device mem.now).cached at.0)) }
-    ensures place { result.0 ≡ place_in (slice_index (M.device mem.now).cached at.0) }
-    ensures in_image { result.0 < length (M.device mem.now).cached }
-{
-    let pointer = PPtr::try_read(mem.load(at), mem.len()).unwrap();
-    pointer.place().unwrap()
 }
 
 // The columns of a table.

@@ -443,12 +443,3 @@ some-of test needed len same is miss = λ none. eqb-false len 0 (sym is ∙ miss
 
 pub none-of : (test : Bool) (needed : Part) (len : ℕ) → len ≡ length needed → test ≡ eqb len 0 → test ≡ true → length needed ≡ 0
 none-of test needed len same is hit = sym same ∙ eqb-true len 0 (sym is ∙ hit)
-
-pub still-whole : (before after : Device) (mending : Mending) → IsWhole before → after ≡ at_rest (mended_words mending before.cached) → IsWhole after
-unfolding mended_words
-still-whole before after mending whole is =
-    let size = length-finished (needed_parts before.cached (mending before.cached)) before.cached in
-    let cached : length after.cached ≡ length before.cached = ap (λ (d : Device). length d.cached) is ∙ size in
-    let durable : length after.durable ≡ length before.cached = ap (λ (d : Device). length d.durable) is ∙ size in
-    let segments = whole.segments in let least = whole.one_or_more in let most = whole.most in
-    record { durable = durable ∙ sym cached; segments = ap (λ (n : ℕ). n % 32768) cached ∙ segments; one_or_more = omega (arith, cached, least); most = omega (arith, cached, most) }

@@ -1,21 +1,23 @@
 -- An image that is accepted keeps the rules on which the steps of opening and the plans of changes rely.
-use Rattle.std.proofs.Common.{◌≡◌, ℕ, ◌<◌, List, length, get_or, map, sym, ◌∙◌, ap, subst, arith}
-use Rattle.std.specs.Prelude.{None}
+use Rattle.std.proofs.Common.{◌≡◌, ℕ, ◌<◌, List, [], length, get_or, map, sym, ◌∙◌, ap, subst, arith}
+use Rattle.std.specs.Prelude.{None, All}
 use Rattle.std.proofs.lemmas.List.{length-map}
 use Rattle.std.proofs.lemmas.List.FromFn.{length-range_with_len}
-use Rattle.std.proofs.lemmas.List.Elements.{All-contains, Contains-get_or}
+use Rattle.std.proofs.lemmas.List.Elements.{All-contains, All-nil, Contains-get_or}
 use Rattle.pm_model.specs.Fixed.{lane_op_at, ready_at, first_segment_at, table_count_at, table_slot_at}
 use Rattle.pm_model.specs.Places.{below}
 use Rattle.pm_model.specs.Objects.{segment_pointer_at}
 use Rattle.pm_model.specs.Checks.{Keeps, first_fault}
 use Rattle.pm_model.specs.HeapRules.{reserved_rule}
 use Rattle.pm_model.specs.EntryRules.{table_count_rule, table_slot_rule, object_rule, objects_rule}
+use Rattle.pm_model.specs.SoundRules.{table_name_checks, distinct_name_rule}
+use Rattle.pm_model.specs.Tables.{table_block}
 use Rattle.pm_model.proofs.Faults.{Holds, keeps_all}
 use Rattle.pm_model.proofs.Members.{below-Contains, flat_map-Contains}
 use Rattle.heap_palloc.specs.Index.{HeapIndex, IsIndexOf}
 use Rattle.heap_palloc.specs.Calls.{KeepsHeapRules}
 use Rattle.txn_object.specs.Calls.{MayPlanExtension}
-use Rattle.catalog.specs.Entries.{CatalogTable, published_table, published_tables, ShowsTables}
+use Rattle.catalog.specs.Entries.{CatalogTable, published_table, published_tables, KeepsTableRules}
 use Rattle.catalog.specs.Calls.{MayPlanCreation}
 use Rattle.pmem_recover.specs.EntryRules.{entry_rules}
 use Rattle.pmem_recover.specs.Undo.{KeepsUndoRules}
@@ -91,6 +93,15 @@ may_create words index tables none idle count slot index_of count_of =
 pub count_of_published : (words : List ℕ) (tables : List CatalogTable) → tables ≡ published_tables words → length tables ≡ get_or words table_count_at 0
 count_of_published words tables is = ap length is ∙ length-map (below (get_or words table_count_at 0)) (published_table words) ∙ length-range_with_len 0 (get_or words table_count_at 0)
 
--- where there is no table, each shows what it should
-pub shows_none : (words : List ℕ) → get_or words table_count_at 0 ≡ 0 → ShowsTables words
-shows_none words count = record { most = omega arith; each = λ table lt. absurd (omega arith) }
+-- where there is no table, no two names are one
+no_names : (words : List ℕ) → get_or words table_count_at 0 ≡ 0 → Keeps words distinct_name_rule
+unfolding distinct_name_rule
+no_names words count = record { checks = subst (λ (n : ℕ). All Holds (table_name_checks words [] (map (table_block words) (below n)))) (sym count) (All-nil Holds) }
+
+pub keeps_tables : (words : List ℕ) → first_fault entry_rules words ≡ None → get_or words table_count_at 0 ≡ 0 → KeepsTableRules words
+keeps_tables words none count = record {
+  table_count = keeps_table_count words none;
+  table_slots = keeps_table_slots words none;
+  names = keeps_all entry_rules words none 10 (record { number = 0; rule = reserved_rule }) (omega arith);
+  distinct_names = no_names words count;
+}

@@ -165,7 +165,7 @@ Contains-among [] y is = cc
 Contains-among (x ∷ xs) y is =
     ⊎_elim (λ here. let C : ℕ → Type 0 = λ z. Contains (x ∷ xs) z in subst C (eqb-true x y here) (Contains-here x xs)) (λ there. Contains-there x y xs (Contains-among xs y there)) (or_cases (eqb x y) (is_among xs y) is)
 
-pub any_one : (test : Block → Bool) (xs : List Block) → list_any test xs ≡ true → (x : Block) × Contains xs x × (test x ≡ true)
+any_one : (test : Block → Bool) (xs : List Block) → list_any test xs ≡ true → (x : Block) × Contains xs x × (test x ≡ true)
 any_one test [] is = absurd (cc)
 any_one test (x ∷ xs) is =
     ⊎_elim (λ here. (x, Contains-here x xs, here)) (λ there. let found = any_one test xs there in (found.0, Contains-there x found.0 xs found.1, found.2)) (or_cases (test x) (list_any test xs) is)

@@ -2,7 +2,7 @@ use Rattle.std.proofs.Common.{drop, ap}
 use Rattle.pm_model.specs.Device.{Device}
 use Rattle.engine_core.specs.Opening.{mendings}
 use Rattle.engine_core.specs.Mended.{mending_of}
-use Rattle.engine_core.proofs.OpeningPlans.{opening-starts, opening-rules, opening-may, opening-goes, still-rests, still-whole, device-done}
+use Rattle.engine_core.proofs.OpeningPlans.{opening-starts, opening-rules, opening-may, opening-goes, still-rests, device-done}
 use Rattle.engine_core.proofs.opening.mend_all.Goals as goal
 
 pub loop-place-init : goal.loop-place-init
@@ -16,7 +16,7 @@ mend-requires-clause-plan g c = opening-may (g.M.Memory.device c.args.memory.now
 
 pub loop-place-preserved : goal.loop-place-preserved
 loop-place-preserved g c = record {
-  whole = still-whole (g.M.Memory.device c.loop-place.memory) (g.M.Memory.device c.mend.new.memory) (mending_of c.nth.result) c.loop-place.invariant.whole c.in_ok-mend.ensures;
+  whole = g.met.M.Memory.whole c.mend.new.memory;
   rests = still-rests (g.M.Memory.device c.mend.new.memory) _ c.in_ok-mend.ensures;
   opening = opening-goes (g.M.Memory.device c.args.memory.now).cached (mending_of c.nth.result) c.loop-place.place (g.M.Memory.device c.loop-place.memory).cached (g.M.Memory.device c.mend.new.memory).cached c.nth.ensures.mending (ap (λ (d : Device). d.cached) c.in_ok-mend.ensures) c.loop-place.invariant.opening;
 }

@@ -1,8 +1,8 @@
-use Rattle.power_cuts.proofs.Kept.{may_create, count_of_published, shows_none}
+use Rattle.power_cuts.proofs.Kept.{may_create, count_of_published, keeps_tables}
 use Rattle.power_cuts.proofs.structures.first_creation.Goals as goal
 
 pub rebuild-requires : goal.rebuild-requires
-rebuild-requires g c = shows_none (g.M.Memory.device c.args.memory.now).cached c.requires.none
+rebuild-requires g c = keeps_tables (g.M.Memory.device c.args.memory.now).cached c.requires.rules c.requires.none
 
 pub plan_create-requires : goal.plan_create-requires
 plan_create-requires g c =
