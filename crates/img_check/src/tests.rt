@@ -4,7 +4,9 @@ use std::alloc::Global;
 use std::process::Abort;
 use std::test::Fail;
 
-// The pointers to the first slot of page 4 and to the last page of one segment.
+// The pointers to the first table slot, and to the first slot of page 4 and the last page of one segment.
+const SLOT: u64 = 4_294_967_816;
+
 const BLOCK: u64 = 4_294_969_352;
 
 const LAST_PAGE: u64 = 4_294_999_552;
@@ -84,7 +86,7 @@ fn broken(rule: u8, place: u32) -> Result<(), CheckError> {
 
 #[test]
 fn the_first_broken_rule_is_told(rt: HostRuntime) -> Result<(), Fail> {
-    let cases: [(&[(usize, u64)], Result<(), CheckError>); 32] = [
+    let cases: [(&[(usize, u64)], Result<(), CheckError>); 33] = [
         (&[], Ok(())),
         (&[(512, 0)], broken(1, 512)),
         (&[(513, 9)], broken(2, 513)),
@@ -100,6 +102,7 @@ fn the_first_broken_rule_is_told(rt: HostRuntime) -> Result<(), Fail> {
         (&[(1024, 2)], broken(14, 1024)),
         (&[(1024, 1), (1028, 3 << 56)], broken(15, 1028)),
         (&[(696, 1), (697, BLOCK), (698, BLOCK)], broken(16, 696)),
+        (&[(576, 1), (577, SLOT), (578, BLOCK)], broken(16, 576)),
         (&[(521, BLOCK)], broken(17, 521)),
         (&[(1984, 1)], broken(18, 1984)),
         (&[(1985, 1)], broken(18, 1985)),
@@ -143,7 +146,7 @@ fn the_first_broken_rule_is_told(rt: HostRuntime) -> Result<(), Fail> {
 
 #[test]
 fn stamps_fit_the_bound_and_the_commits(rt: HostRuntime) -> Result<(), Fail> {
-    let cases: [(&[(usize, u64)], Result<(), CheckError>); 26] = [
+    let cases: [(&[(usize, u64)], Result<(), CheckError>); 27] = [
         (&[], Ok(())),
         // The bound, and the rows of each array.
         (&[(2057, 0)], broken(27, 2560)),
@@ -175,6 +178,7 @@ fn stamps_fit_the_bound_and_the_commits(rt: HostRuntime) -> Result<(), Fail> {
         (&[(3071, 1)], broken(27, 3071)),
         (&[(3583, 1)], broken(27, 3583)),
         // The rules on both sides.
+        (&[(2081, CHUNK), (3073, 1)], broken(20, 2081)),
         (&[(3583, 1), (9, 1), (4608, 5)], broken(27, 3583)),
     ];
     for (changes, told) in cases {

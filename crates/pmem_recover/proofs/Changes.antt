@@ -5,9 +5,9 @@ use Rattle.std.proofs.Math.Seq.{take-suc}
 use Rattle.std.proofs.lemmas.Bool.{eqb-true, eq-eqb, ne_eqb}
 use Rattle.std.proofs.lemmas.Grind.{flat_map-append}
 use Rattle.pm_model.specs.declared.action.Action.{Action}
-use Rattle.pm_model.specs.Plans.{Part, one_store, unless_empty, words_after, part_actions, plan_of, finished, IsPlan, EachCut}
+use Rattle.pm_model.specs.Plans.{Part, one_store, unless_empty, words_after, part_actions, plan_of, finished}
 use Rattle.pm_model.specs.Needed.{needed_parts, Stores}
-use Rattle.pm_model.proofs.Cuts.{store_part, finished-append, length-finished, plan-append, each_cut-append, each_cut-start}
+use Rattle.pm_model.proofs.Cuts.{length-finished}
 use Rattle.pmem_recover.specs.declared.change.Change.{Change}
 use Rattle.pmem_recover.specs.Changes.{change_part, change_parts}
 

@@ -9,6 +9,5 @@ pub mod PartByPart
 pub mod Parts
 pub mod Steps
 pub mod TableSlot
-pub mod TestObjects
 pub mod UndoRules
 pub mod Undoing

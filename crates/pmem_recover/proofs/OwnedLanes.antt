@@ -1,6 +1,5 @@
 -- Where owner words are apart, each lane may be mended.
-use Rattle.std.proofs.Common.{◌≡◌, ◌≢◌, ℕ, ◌%◌, ◌<◌, ◌≤◌, List, length, get_or, arith}
-use Rattle.pm_model.specs.Fixed.{lane_op_at}
+use Rattle.std.proofs.Common.{◌≡◌, ℕ, ◌%◌, ◌<◌, ◌≤◌, List, length, arith}
 use Rattle.pm_model.specs.EntryRules.{KeepsEntryRules}
 use Rattle.pm_model.specs.Owners.{lane_owner, OwnersAreApart}
 use Rattle.heap_palloc.specs.Calls.{KeepsHeapRules}

@@ -1,12 +1,7 @@
 ghost use Rattle.std.specs.Prelude.{◌≤◌};
-ghost use Rattle.pm_model.specs.Checks.{Keeps};
-ghost use Rattle.pm_model.specs.EntryRules.{objects_rule};
 
 use crate::*;
-use pm_model::{
-    Action, Keep, Memory, OBJECTS, Place, Plain, Plan, commit_word, fresh, object_state,
-    ready_segments, segment_pointer,
-};
+use pm_model::{Action, Keep, Memory, Place, Plain, Plan, fresh};
 use std::alloc::Global;
 use std::process::Abort;
 use std::test::Fail;
@@ -229,16 +224,35 @@ fn act<M: Memory>(rt: &impl Abort, memory: &mut M, session: u8, action: Action)
     }
 }
 
-// The next lane of an image whose rules are tried first.
-fn next_checked<M: Memory>(
+// A step of opening.
+#[derive(Clone, Copy)]
+enum Step {
+    Lane,
+    Slot,
+    Last,
+    Undo,
+    Idle,
+    Clear,
+}
+
+// The next plan of a step, on an image whose rules are tried first.
+fn next_plan<M: Memory>(
     rt: &impl Abort,
     alloc: Global,
     memory: &M,
+    step: Step,
     from: u32,
 ) -> Result<Option<(u32, Plan)>, NoMemory> {
     let words = memory.choose(Keep::All)?;
     match check_entry(alloc, &words) {
-        Ok(()) => next_lane(alloc, memory, from),
+        Ok(()) => match step {
+            Step::Lane => next_lane(alloc, memory, from),
+            Step::Slot => next_slot(alloc, memory, from),
+            Step::Last => next_last(alloc, memory, from),
+            Step::Undo => next_undo(alloc, memory, from),
+            Step::Idle => next_idle(alloc, memory, from),
+            Step::Clear => next_clear(alloc, memory, from),
+        },
         Err(_) => panic!(rt; "the image breaks a rule"),
     }
 }
@@ -247,7 +261,7 @@ fn next_checked<M: Memory>(
 fn mend_lanes<M: Memory>(rt: &impl Abort, alloc: Global, memory: &mut M) -> Result<(), NoMemory> {
     let mut from = 0;
     for _ in 0..16 {
-        let Some((lane, mut plan)) = next_checked(rt, alloc, memory, from)? else {
+        let Some((lane, mut plan)) = next_plan(rt, alloc, memory, Step::Lane, from)? else {
             return Ok(());
         };
         for _ in 0..plan.len() {
@@ -295,111 +309,390 @@ fn a_cut_allocation_or_freeing_is_done_or_undone(rt: HostRuntime) -> Result<(), 
     Ok(())
 }
 
-// Stops unless the objects have no segments, are open or not, and have a commit word of at most 1.
-fn assert_plain<M: Memory>(rt: &impl Abort, memory: &M)
-    ensures { Keeps (M.device memory.now).cached objects_rule }
-{
-    for object in 0..OBJECTS {
-        assert!(rt; memory.load(object_state(object)) <= 1);
-        assert!(rt; memory.load(commit_word(object)) <= 1);
-        assert!(rt; memory.load(ready_segments(object)) == 0);
-        assert!(rt; memory.load(segment_pointer(object)) == 0);
-    }
-}
+// The number that a step finds, and the actions of its plan.
+type Found<'a> = Option<(u32, &'a [Action])>;
 
-// Plays a plan to its end.
-fn play_all<M: Memory>(rt: &impl Abort, memory: &mut M, mut plan: Plan) {
-    for _ in 0..plan.len() {
-        let Some(action) = plan.next() else { break };
-        act(rt, memory, 0, action);
-    }
-}
-
-// Plays the step of the last commit number, and those that close and clear objects, until none is left. The number of
-// plans, and of actions of the last one.
-fn finish_objects<M: Memory>(
+// Stops unless a step finds this on the image with the table, after some of its words were changed, and then others.
+fn assert_step(
     rt: &impl Abort,
     alloc: Global,
-    memory: &mut M,
-) -> Result<(u32, u32), NoMemory> {
-    let mut plans: u32 = 0;
-    let mut actions = 0;
-    if let Some((number, plan)) = next_last(alloc, memory, 0)? {
-        assert_eq!(rt; number, 0);
-        plans = plans.saturating_add(1);
-        play_all(rt, memory, plan);
-    }
-    for from in 0..16 {
-        if let Some((number, plan)) = next_idle(alloc, memory, from)? {
-            assert_eq!(rt; number, from);
-            plans = plans.saturating_add(1);
-            play_all(rt, memory, plan);
-        }
-    }
-    for from in 0..16 {
-        assert_plain(rt, memory);
-        if let Some((number, plan)) = next_clear(alloc, memory, from)? {
-            assert!(rt; number >= from);
-            plans = plans.saturating_add(1);
-            actions = plan.len();
-            play_all(rt, memory, plan);
-        }
-    }
-    Ok((plans, actions))
-}
-
-// Changes three words of a formatted image of one segment, and finishes its objects.
-fn finished_words(
-    rt: &impl Abort,
-    alloc: Global,
-    changes: [(usize, u64); 3],
-    read: [u32; 4],
-) -> Result<((u32, u32), [u64; 4]), NoMemory> {
+    image: &[(usize, u64)],
+    changes: &[(usize, u64)],
+    step: Step,
+    from: u32,
+    told: Found,
+) -> Result<(), NoMemory> {
     let mut words = fresh(alloc, 1)?;
-    for (place, value) in changes {
-        assert!(rt; place < 32768);
-        words[place] = value;
+    for (place, value) in TABLE.iter().chain(image).chain(changes) {
+        assert!(rt; *place < words.len());
+        words[*place] = *value;
     }
-    let mut memory = Plain::new(alloc, words)?;
-    let counts = finish_objects(rt, alloc, &mut memory)?;
-    let mut found = [0; 4];
-    for (nth, place) in read.iter().enumerate() {
-        assert!(rt; *place < 32768);
-        found[nth] = memory.load(Place(*place));
+    assert_eq!(rt; words.len(), 32768);
+    let memory = Plain::new(alloc, words)?;
+    let Some((number, mut plan)) = next_plan(rt, alloc, &memory, step, from)? else {
+        assert!(rt; told.is_none());
+        return Ok(());
+    };
+    let Some((expected, actions)) = told else {
+        panic!(rt; "a plan where nothing is left to mend");
+    };
+    assert_eq!(rt; number, expected);
+    assert_eq!(rt; plan.len() as usize, actions.len());
+    for action in actions {
+        assert_eq!(rt; plan.next(), Some(*action));
     }
-    Ok((counts, found))
+    Ok(())
 }
 
-// Object 0 stands at 1024 and object 15 at 1984: the state, the commit word, and from the fifth word on the entries.
+fn flush(line: u32) -> Action {
+    Action::Flush { line }
+}
+
+// The pointers to the pages 5 to 9.
+const PAGE_5: u64 = 4_294_969_856;
+
+const PAGE_6: u64 = PAGE_5 + 512;
+
+const PAGE_7: u64 = PAGE_5 + 1024;
+
+const PAGE_8: u64 = PAGE_5 + 1536;
+
+const PAGE_9: u64 = PAGE_5 + 2048;
+
+// The pointer to the table slot behind that of the one table, whose place is 521.
+const SLOT: u64 = 4_294_967_817;
+
+// The pointer to the second slot of page 4, whose place is 2184.
+const SECOND: u64 = BLOCK + 128;
+
 #[test]
-fn objects_are_closed_and_cleared(rt: HostRuntime) -> Result<(), Fail> {
-    for (changes, read, counts, found) in [
-        // Nothing is left to do.
+fn the_block_of_a_table_that_was_being_created_is_freed(rt: HostRuntime) -> Result<(), Fail> {
+    let in_a_used_page = [
+        store(577, SLOT),
+        store(578, SECOND),
+        flush(72),
+        Action::Fence,
+        store(576, 2),
+        flush(72),
+        Action::Fence,
+        store(521, 0),
+        flush(65),
+        Action::Fence,
+        store(2048, 1),
+        flush(256),
+        Action::Fence,
+        store(576, 0),
+        flush(72),
+        Action::Fence,
+    ];
+    let alone_in_its_page = [
+        store(577, SLOT),
+        store(578, PAGE_5 + 8),
+        flush(72),
+        Action::Fence,
+        store(576, 2),
+        flush(72),
+        Action::Fence,
+        store(521, 0),
+        flush(65),
+        Action::Fence,
+        store(2560, 0),
+        flush(320),
+        Action::Fence,
+        store(576, 0),
+        flush(72),
+        Action::Fence,
+        store(5, 0),
+        flush(0),
+        Action::Fence,
+    ];
+    let big = [
+        store(577, SLOT),
+        store(578, PAGE_5),
+        flush(72),
+        Action::Fence,
+        store(576, 2),
+        flush(72),
+        Action::Fence,
+        store(521, 0),
+        flush(65),
+        Action::Fence,
+        store(5, 0),
+        flush(0),
+        Action::Fence,
+        store(576, 0),
+        flush(72),
+        Action::Fence,
+    ];
+    let not_live = [
+        store(577, SLOT),
+        store(578, SECOND),
+        flush(72),
+        Action::Fence,
+        store(576, 2),
+        flush(72),
+        Action::Fence,
+        store(521, 0),
+        flush(65),
+        Action::Fence,
+        store(576, 0),
+        flush(72),
+        Action::Fence,
+    ];
+    let created = [(521, SECOND), (2048, 3)];
+    let cases: [(&[(usize, u64)], u32, Found); 8] = [
+        (&[], 0, None),
+        (&created, 0, Some((0, &in_a_used_page))),
+        (&created, 1, None),
         (
-            [(1000, 0), (1000, 0), (1000, 0)],
-            [514, 1024, 1025, 1028],
-            (0, 0),
-            [0, 0, 0, 0],
+            &[(5, 6), (2560, 1), (521, PAGE_5 + 8)],
+            0,
+            Some((0, &alone_in_its_page)),
         ),
-        // A commit that the last number lacks: the number, the state, and then two words of one line.
+        (&[(5, 17), (521, PAGE_5)], 0, Some((0, &big))),
+        (&[(521, SECOND)], 0, Some((0, &not_live))),
+        // The lane has the two pointers already.
         (
-            [(1024, 1), (1025, 1), (1028, 9)],
-            [514, 1024, 1025, 1028],
-            (3, 4),
-            [1, 0, 0, 0],
+            &[(521, SECOND), (2048, 3), (577, SLOT), (578, SECOND)],
+            0,
+            Some((0, &in_a_used_page[4..])),
         ),
-        // A closed object, whose commit word doesn't count: two words of two lines.
         (
-            [(1985, 1), (2047, 9), (1000, 0)],
-            [514, 1984, 1985, 2047],
-            (1, 5),
-            [0, 0, 0, 0],
+            &[(521, SECOND), (577, SLOT), (578, SECOND)],
+            0,
+            Some((0, &not_live[4..])),
         ),
-    ] {
-        assert_eq!(rt;
-            finished_words(&rt, rt.alloc(), changes, read)?,
-            (counts, found)
-        );
+    ];
+    for (changes, from, told) in cases {
+        assert_step(&rt, rt.alloc(), &[], changes, Step::Slot, from, told)?;
+    }
+    Ok(())
+}
+
+// Two commits, three rows below the table's bound, and an open transaction without a commit word. It created the rows 3, 4
+// and 2, and ended the rows 0, 1 and 2. The stamps of commit 3 are its own. Those of row 2 are of commits that are kept.
+const UNDECIDED: [(usize, u64); 17] = [
+    (514, 2),
+    (2057, 3),
+    (2064, 1),
+    (2065, PAGE_5),
+    (2080, 1),
+    (2081, PAGE_6),
+    (1024, 1),
+    (1028, CREATED + 3),
+    (1029, ENDED),
+    (1030, CREATED + 4),
+    (1031, ENDED + 1),
+    (1032, CREATED + 2),
+    (1033, ENDED + 2),
+    (2563, 3),
+    (3072, 3),
+    (2562, 2),
+    (3074, 1),
+];
+
+// The entries of row 0 of table 0.
+const CREATED: u64 = 1 << 56;
+
+const ENDED: u64 = 2 << 56;
+
+// The stamp of a row that is dead.
+const DEAD: u64 = u64::MAX;
+
+// A second table, `u a:int`, with a chunk of each array of stamps, and an entry of its row 6.
+const SECOND_TABLE: [(usize, u64); 11] = [
+    (515, 2),
+    (521, SECOND),
+    (2184, 1),
+    (2186, 117),
+    (2224, 1),
+    (2225, 97),
+    (2192, 1),
+    (2193, PAGE_7),
+    (2208, 1),
+    (2209, PAGE_8),
+    (1034, CREATED + (1 << 32) + 6),
+];
+
+#[test]
+fn an_undecided_transaction_is_taken_back(rt: HostRuntime) -> Result<(), Fail> {
+    let all = [
+        store(2563, DEAD),
+        store(3072, 0),
+        store(2564, DEAD),
+        store(2057, 5),
+        flush(257),
+        flush(320),
+        flush(384),
+        Action::Fence,
+        store(1024, 0),
+        flush(128),
+        Action::Fence,
+    ];
+    let below_the_bound = [
+        store(2563, DEAD),
+        store(3072, 0),
+        store(2564, DEAD),
+        flush(320),
+        flush(384),
+        Action::Fence,
+        store(1024, 0),
+        flush(128),
+        Action::Fence,
+    ];
+    let without_a_stamp = [
+        store(2564, DEAD),
+        store(2057, 5),
+        flush(257),
+        flush(320),
+        Action::Fence,
+        store(1024, 0),
+        flush(128),
+        Action::Fence,
+    ];
+    let twice_entered = [
+        store(3072, 0),
+        store(2564, DEAD),
+        store(2563, DEAD),
+        store(2057, 5),
+        flush(257),
+        flush(320),
+        flush(384),
+        Action::Fence,
+        store(1024, 0),
+        flush(128),
+        Action::Fence,
+    ];
+    let two_tables = [
+        store(2563, DEAD),
+        store(3072, 0),
+        store(2564, DEAD),
+        store(3590, DEAD),
+        store(2057, 5),
+        store(2185, 7),
+        flush(257),
+        flush(273),
+        flush(320),
+        flush(384),
+        flush(448),
+        Action::Fence,
+        store(1024, 0),
+        flush(128),
+        Action::Fence,
+    ];
+    let last_object = [store(1984, 0), flush(248), Action::Fence];
+    let cases: [(&[(usize, u64)], u32, Found); 11] = [
+        (&[], 0, Some((0, &all))),
+        (&[], 1, None),
+        (&[(2057, 9)], 0, Some((0, &below_the_bound))),
+        (&[(514, 3)], 0, Some((0, &without_a_stamp))),
+        (&[(1034, CREATED + 3)], 0, Some((0, &twice_entered))),
+        (&SECOND_TABLE, 0, Some((0, &two_tables))),
+        // The first part was made.
+        (
+            &[(2563, DEAD), (3072, 0), (2564, DEAD), (2057, 5)],
+            0,
+            Some((0, &all[8..])),
+        ),
+        // It is closed, or decided.
+        (&[(1024, 0)], 0, None),
+        (&[(1025, 3)], 0, None),
+        (&[(1025, 3), (1984, 1)], 0, Some((15, &last_object))),
+        (&[(1984, 1)], 1, Some((15, &last_object))),
+    ];
+    for (changes, from, told) in cases {
+        assert_step(&rt, rt.alloc(), &UNDECIDED, changes, Step::Undo, from, told)?;
+    }
+    Ok(())
+}
+
+#[test]
+fn the_last_number_becomes_that_of_the_last_commit(rt: HostRuntime) -> Result<(), Fail> {
+    let raised = [store(514, 3), flush(64), Action::Fence];
+    let cases: [(&[(usize, u64)], u32, Found); 6] = [
+        (&[], 0, None),
+        (&[(514, 2), (1024, 1), (1025, 3)], 0, Some((0, &raised))),
+        (&[(514, 2), (1024, 1), (1025, 3)], 1, None),
+        (&[(514, 3), (1024, 1), (1025, 3)], 0, None),
+        (&[(514, 2), (1025, 3)], 0, None),
+        (
+            &[(514, 2), (1024, 1), (1025, 1), (1984, 1), (1985, 3)],
+            0,
+            Some((0, &raised)),
+        ),
+    ];
+    for (changes, from, told) in cases {
+        assert_step(&rt, rt.alloc(), &[], changes, Step::Last, from, told)?;
+    }
+    Ok(())
+}
+
+#[test]
+fn objects_with_a_commit_word_are_closed(rt: HostRuntime) -> Result<(), Fail> {
+    let fourth = [store(1216, 0), flush(152), Action::Fence];
+    let last = [store(1984, 0), flush(248), Action::Fence];
+    let both = [(1216, 1), (1217, 1), (1984, 1), (1985, 1)];
+    let cases: [(&[(usize, u64)], u32, Found); 6] = [
+        (&[], 0, None),
+        (&[(1024, 1)], 0, None),
+        (&[(1025, 1)], 0, None),
+        (&both, 3, Some((3, &fourth))),
+        (&both, 4, Some((15, &last))),
+        (&both, 16, None),
+    ];
+    for (changes, from, told) in cases {
+        assert_step(&rt, rt.alloc(), &[], changes, Step::Idle, from, told)?;
+    }
+    Ok(())
+}
+
+// Object 0 stands at 1024 and object 15 at 1984: the state, the commit word, the number of ready segments, the pointer to
+// the first one, and then the entries.
+#[test]
+fn entries_and_commit_words_are_cleared(rt: HostRuntime) -> Result<(), Fail> {
+    let own = [
+        store(1028, 0),
+        store(1087, 0),
+        store(1025, 0),
+        flush(128),
+        flush(135),
+        Action::Fence,
+    ];
+    let with_a_segment = [
+        store(2047, 0),
+        store(4609, 0),
+        store(4863, 0),
+        store(1985, 0),
+        flush(248),
+        flush(255),
+        flush(576),
+        flush(607),
+        Action::Fence,
+    ];
+    let shared = [store(4700, 0), flush(587), Action::Fence];
+    let segment = [
+        (1986, 1),
+        (1987, PAGE_9),
+        (2047, 9),
+        (4609, 9),
+        (4863, 9),
+        (1985, 1),
+    ];
+    let cases: [(&[(usize, u64)], u32, Found); 6] = [
+        (&[], 0, None),
+        (&[(1025, 1), (1028, 9), (1087, 9)], 0, Some((0, &own))),
+        (&[(1025, 1), (1028, 9), (1087, 9)], 1, None),
+        (&segment, 0, Some((15, &with_a_segment))),
+        (&segment, 16, None),
+        // Two segments share words.
+        (
+            &[(1986, 2), (1987, PAGE_9), (4608, PAGE_9 + 32), (4700, 9)],
+            0,
+            Some((15, &shared)),
+        ),
+    ];
+    for (changes, from, told) in cases {
+        assert_step(&rt, rt.alloc(), &[], changes, Step::Clear, from, told)?;
     }
     Ok(())
 }

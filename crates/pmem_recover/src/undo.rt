@@ -22,15 +22,7 @@ use pm_model::{
 };
 use seg_array::place_of;
 use std::alloc::Global;
-
-// An entry word is its kind, 1 for a row that was created, its table in 24 bits, and its row in 32 bits.
-const KIND_UNIT: u64 = 1 << 56;
-
-const TABLE_UNIT: u64 = 1 << 32;
-
-const TABLE_NUMBERS: u64 = KIND_UNIT / TABLE_UNIT;
-
-const CREATED: u64 = 1;
+use txn_object::{Entry, EntryKind};
 
 // The stamp of a row that no commit created.
 const NO_COMMIT: u64 = u64::MAX;
@@ -98,31 +90,34 @@ fn push_stamps<M: Memory>(mem: &M, entries: &[Place], changes: &mut Vec<Change>)
 }
 
 // Adds the change that takes back the stamp of an entry's row, where it isn't that of a commit.
-fn push_stamp<M: Memory>(mem: &M, entry: u64, changes: &mut Vec<Change>)
+fn push_stamp<M: Memory>(mem: &M, word: u64, changes: &mut Vec<Change>)
     requires rules { KeepsUndoRules (M.device mem.now).cached }
-    requires entry { IsTrue (is_entry (M.device mem.now).cached entry) }
+    requires entry { IsTrue (is_entry (M.device mem.now).cached word) }
     requires room { vec_len changes.old < vec_capacity changes.old }
-    ensures part { change_part changes.new.items ≡ change_part changes.old.items ++ undo_entry (M.device mem.now).cached entry }
+    ensures part { change_part changes.new.items ≡ change_part changes.old.items ++ undo_entry (M.device mem.now).cached word }
     ensures within { All (λ change. change.place.0 < length (M.device mem.now).cached) changes.old.items → All (λ change. change.place.0 < length (M.device mem.now).cached) changes.new.items }
     ensures len { vec_len changes.new ≤ vec_len changes.old + 1 }
     ensures capacity { vec_capacity changes.new ≡ vec_capacity changes.old }
 {
-    let table = read_pointer(mem, table_slot((entry / TABLE_UNIT % TABLE_NUMBERS) as u8));
-    let row = (entry % TABLE_UNIT) as u32;
+    let entry = Entry::of_word(word);
+    let table = read_pointer(mem, table_slot(entry.table as u8));
     let last = mem.load(last_commit());
-    if entry / KIND_UNIT == CREATED {
-        let place = place_of(mem, created_header(table), row);
-        let stamp = mem.load(place);
-        if stamp == 0 || last < stamp {
-            changes.push_reserved(Change {
-                place,
-                value: NO_COMMIT,
-            });
+    match entry.kind {
+        EntryKind::Created => {
+            let place = place_of(mem, created_header(table), entry.row);
+            let stamp = mem.load(place);
+            if stamp == 0 || last < stamp {
+                changes.push_reserved(Change {
+                    place,
+                    value: NO_COMMIT,
+                });
+            }
         }
-    } else {
-        let place = place_of(mem, ended_header(table), row);
-        if last < mem.load(place) {
-            changes.push_reserved(Change { place, value: 0 });
+        EntryKind::Ended => {
+            let place = place_of(mem, ended_header(table), entry.row);
+            if last < mem.load(place) {
+                changes.push_reserved(Change { place, value: 0 });
+            }
         }
     }
 }
@@ -158,9 +153,9 @@ fn row_bound<M: Memory>(mem: &M, entries: &[Place], table: u64) -> u64
 {
     let mut bound = 0;
     for at in entries {
-        let entry = mem.load(*at);
-        if entry / KIND_UNIT == CREATED && entry / TABLE_UNIT % TABLE_NUMBERS == table {
-            bound = (entry % TABLE_UNIT + 1).max(bound);
+        let entry = Entry::of_word(mem.load(*at));
+        if entry.kind == EntryKind::Created && u64::from(entry.table) == table {
+            bound = (u64::from(entry.row) + 1).max(bound);
         }
     }
     bound

@@ -1,0 +1,25 @@
+use Rattle.std.proofs.Common.{ℕ, List, ◌∙◌, subst}
+use Rattle.pm_model.specs.Checks.{Keeps}
+use Rattle.pm_model.specs.EntryRules.{objects_rule, table_slot_rule}
+use Rattle.shown_state.specs.LaneRules.{KeepsLaneRules}
+use Rattle.pmem_recover.specs.Undo.{KeepsUndoRules}
+use Rattle.pmem_recover.proofs.FirstFault.{entry-lanes, entry-undo}
+use Rattle.pmem_recover.proofs.tests.next_plan.Goals as goal
+
+pub next_lane-requires : goal.next_lane-requires
+next_lane-requires g c =
+    subst KeepsLaneRules (c.deref.ensures.value ∙ c.in_ok-words.ensures.words) (entry-lanes c.deref.result.now c.in-Ok.ensures.sound)
+
+pub next_slot-requires : goal.next_slot-requires
+next_slot-requires g c =
+    let keeps : List ℕ → Type 0 = λ words. Keeps words table_slot_rule in
+    subst keeps (c.deref.ensures.value ∙ c.in_ok-words.ensures.words) (entry-undo c.deref.result.now c.in-Ok.ensures.sound).table_slots
+
+pub next_undo-requires : goal.next_undo-requires
+next_undo-requires g c =
+    subst KeepsUndoRules (c.deref.ensures.value ∙ c.in_ok-words.ensures.words) (entry-undo c.deref.result.now c.in-Ok.ensures.sound)
+
+pub next_clear-requires : goal.next_clear-requires
+next_clear-requires g c =
+    let keeps : List ℕ → Type 0 = λ words. Keeps words objects_rule in
+    subst keeps (c.deref.ensures.value ∙ c.in_ok-words.ensures.words) (entry-undo c.deref.result.now c.in-Ok.ensures.sound).objects
