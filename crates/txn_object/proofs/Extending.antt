@@ -197,7 +197,7 @@ module _ (base : List ℕ) (e : Extension) (may : MayExtend base e) (page : ℕ)
   Kept words = (w : ℕ) → IsElsewhereOf base e.object e.source w → IsOutside (new_segment e) w → w ≢ ready_at e.object → get_or words w 0 ≡ get_or base w 0
 
   module _ (words : List ℕ) (size : length words ≡ length base) (kept : (w : ℕ) → IsElsewhereOf base e.object e.source w → IsOutside (new_segment e) w → w ≢ ready_at e.object → get_or words w 0 ≡ get_or base w 0) where
-    pointers_kept : (k : ℕ) → k < ready_count base e.object → get_or words (segment_pointer_at base e.object k) 0 ≡ get_or base (segment_pointer_at base e.object k) 0
+    pub pointers_kept : (k : ℕ) → k < ready_count base e.object → get_or words (segment_pointer_at base e.object k) 0 ≡ get_or base (segment_pointer_at base e.object k) 0
     pointers_kept k lt = let is = pointer_untouched k lt in kept (segment_pointer_at base e.object k) is.0 is.1 is.2
 
     own_kept : (w : ℕ) → 512 ≤ w → w < 2048 → (w < 576) ⊎ (704 ≤ w) → w ≢ first_segment_at e.object → w ≢ ready_at e.object → get_or words w 0 ≡ get_or base w 0

@@ -2,6 +2,7 @@ pub mod Clears
 pub mod Entering
 pub mod Extending
 pub mod Frames
+pub mod HalfWay
 pub mod Keeping
 pub mod Lines
 pub mod OwnedSegments

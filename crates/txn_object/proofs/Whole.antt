@@ -56,10 +56,10 @@ rules_same old new same rules =
     rules_from new (λ page lt. kept_same old new page (is_inside-same old new (inside_from old new (λ p. (same.pages p).descriptor)) page) (same.pages page).descriptor (same.pages page).bitmap
     (rules_at old rules page (subst (λ (n : ℕ). page < n / 512) same.size lt)))
 
-gained-new : {A : Type 0} (old : List A) (one : A) (new : List A) → GainsOne old one new → Contains new one
+pub gained-new : {A : Type 0} (old : List A) (one : A) (new : List A) → GainsOne old one new → Contains new one
 gained-new old one new gains = subst (λ (xs : List _). Contains xs one) (sym gains.new_is) (Contains-append_right gains.front (one ∷ gains.back) one (Contains-here one gains.back))
 
-gained-old : {A : Type 0} (old : List A) (one x : A) (new : List A) → GainsOne old one new → Contains old x → Contains new x
+pub gained-old : {A : Type 0} (old : List A) (one x : A) (new : List A) → GainsOne old one new → Contains old x → Contains new x
 gained-old old one x new gains within = subst (λ (xs : List _). Contains xs x) (sym gains.new_is) (⊎_elim
     (λ front. Contains-append_left gains.front (one ∷ gains.back) x front)
     (λ back. Contains-append_right gains.front (one ∷ gains.back) x (Contains-there one x gains.back back))
@@ -202,16 +202,16 @@ module _ (base : List ℕ) (object : ℕ) (choice : Choice) (may : MayExtend bas
   abbrev now : List ℕ
   now = finished (choice_parts base choice) base
 
-  changes : ChangesShown object (pointer_after base object) (choice_page choice) (choice_pages choice) base (live_blocks base) 0 (live_blocks (finished (choice_parts base choice) base)) (pointer_word (choice_block choice).first) (choice_parts base choice) base
+  pub changes : ChangesShown object (pointer_after base object) (choice_page choice) (choice_pages choice) base (live_blocks base) 0 (live_blocks (finished (choice_parts base choice) base)) (pointer_word (choice_block choice).first) (choice_parts base choice) base
   changes = choice_changes base object (pointer_after base object) choice may.source.0 may.source.1
 
-  shown : Shows object (pointer_after base object) (choice_page choice) (choice_pages choice) base (live_blocks (finished (choice_parts base choice) base)) (pointer_word (choice_block choice).first) (finished (choice_parts base choice) base)
+  pub shown : Shows object (pointer_after base object) (choice_page choice) (choice_pages choice) base (live_blocks (finished (choice_parts base choice) base)) (pointer_word (choice_block choice).first) (finished (choice_parts base choice) base)
   shown = change_settles object (pointer_after base object) (choice_page choice) (choice_pages choice) base (live_blocks base) 0 (live_blocks (finished (choice_parts base choice) base)) (pointer_word (choice_block choice).first) (choice_parts base choice) base changes
 
-  count_away : IsElsewhereOf base object (allocated choice) (ready_at object)
+  pub count_away : IsElsewhereOf base object (allocated choice) (ready_at object)
   count_away = ready_elsewhere base (record { object = object; source = allocated choice }) may page stands
 
-  at : AtSegment base (record { object = object; source = allocated choice }) may page stands (finished (choice_parts base choice) base)
+  pub at : AtSegment base (record { object = object; source = allocated choice }) may page stands (finished (choice_parts base choice) base)
   at = record {
     size = shown.keeps.size;
     op = changes.idle;
@@ -235,7 +235,7 @@ module _ (base : List ℕ) (object : ℕ) (choice : Choice) (may : MayExtend bas
       (ap (is_pointer_to (mended_lane object image) 256) shows.word_is ∙ new_pointer_sound base (record { object = object; source = allocated choice }) may page stands (mended_lane object image) shows.keeps.size))
       (inr (record { blocks_are = shows.blocks_are ∙ sym (blocks_end base (record { object = object; source = allocated choice }) may page stands (finished (choice_parts base choice) base) at); named = shows.word_is }))
 
-  gains : GainsOne (live_blocks base) (segment_block (choice_block choice).first) (live_blocks (finished (choice_parts base choice) base))
+  pub gains : GainsOne (live_blocks base) (segment_block (choice_block choice).first) (live_blocks (finished (choice_parts base choice) base))
   gains = subst (λ (block : Block). GainsOne (live_blocks base) block (live_blocks (finished (choice_parts base choice) base))) (block_is choice may.source.2) (choice_gains base choice may.source.0)
 
   again_here : HasSegments (finished (extension_parts base (record { object = object; source = allocated choice })) base) object

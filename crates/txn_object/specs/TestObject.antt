@@ -14,10 +14,12 @@ pub record IsExtendable (d : Device) (index : HeapIndex) : Type 0 where
   pub none : entries d.cached 0 ≡ []
   pub clean : (w : ℕ) → IsClean d w
 
--- the first transaction object has all its segments, and so many entries, which no word that is 0 stands before
-pub record HasEntries (d : Device) (count : ℕ) : Type 0 where
+-- the first transaction object has so many ready segments and so many entries, which no word that is 0 stands before, and it
+-- may be extended
+pub record HasEntries (d : Device) (ready count : ℕ) : Type 0 where
   pub is_object : HasObject d.cached 0
-  pub ready : ready_count d.cached 0 ≡ 32
+  pub ready_is : ready_count d.cached 0 ≡ ready
   pub count_is : length (entries d.cached 0) ≡ count
   pub packed : NoEntryFollowsZero d.cached 0
+  pub extends : (index : HeapIndex) × MayPlanExtension d.cached index 0
   pub clean : (w : ℕ) → IsClean d w

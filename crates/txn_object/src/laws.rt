@@ -14,7 +14,7 @@ ghost use Rattle.txn_object.specs.Entries.{entry_word, entry_of};
 ghost use Rattle.txn_object.specs.Object.{entries_in, nth_place, begin_parts, entry_part, retire_parts, NoEntryFollowsZero};
 ghost use Rattle.heap_palloc.specs.Index.{HeapIndex, IsIndexOf};
 ghost use Rattle.txn_object.specs.Calls.{MayPlanExtension};
-ghost use Rattle.txn_object.specs.Extension.{Extension, new_segment, extension_parts, segment_block, HasSegments, MayExtend};
+ghost use Rattle.txn_object.specs.Extension.{Extension, new_segment, source_parts, extension_parts, segment_block, HasSegments, MayExtend};
 ghost use Rattle.txn_object.specs.Shown.{Transaction, Shows, HasObject, MayEnter, IsCut, IsUnextended, IsExtended, IsRetiring, IsRetired};
 ghost use Rattle.txn_object.specs.Spared.{KeepsObject, SparesObject};
 
@@ -128,11 +128,14 @@ pub fn extension_law()
     ensures settles { (base : List ℕ) (e : Extension) → MayExtend base e → IsExtended base e (finished (extension_parts base e) base) }
     ensures clean { (play : Play) (n w : ℕ) (d : Device) → IsPlaying play n [] d → IsTrue (footprint (plan_of play.parts) w) → IsClean d w }
 
-    // The ready segments go on to be blocks of the heap, which share no word, and the next extension may be planned.
+    // The ready segments go on to be blocks of the heap, which share no word, and the next extension may be planned; and so it
+    // may once the object owns its segment.
     ensures again { (base : List ℕ) (e : Extension) → MayExtend base e → HasSegments (finished (extension_parts base e) base) e.object }
     ensures goes_on { (base : List ℕ) (e : Extension) (index : HeapIndex) → MayExtend base e → IsIndexOf (finished (extension_parts base e) base) index →
         MayPlanExtension (finished (extension_parts base e) base) index e.object }
     ensures object { (words : List ℕ) (object : ℕ) → object < 16 → 2048 ≤ length words → length words % 32768 ≡ 0 → HasSegments words object → HasObject words object }
+    ensures half_way { (base : List ℕ) (e : Extension) (index : HeapIndex) → MayExtend base e → IsIndexOf (finished (source_parts base e.source) base) index →
+        MayPlanExtension (finished (source_parts base e.source) base) index e.object }
 
     // In a sound image it may be planned of each object.
     ensures sound { (words : List ℕ) (index : HeapIndex) (object : ℕ) → object < 16 → IsSound words → IsIndexOf words index → MayPlanExtension words index object }

@@ -1,12 +1,11 @@
 //! A whole transaction: it begins, enters as many rows as there are places, and is retired.
 ghost use Rattle.std.specs.Prelude.{◌≡◌, ◌+◌, ◌^◌, ◌<◌, ◌≤◌, IfOk};
-ghost use Rattle.pm_model.specs.Plain.{device_of};
 ghost use Rattle.txn_object.specs.TestObject.{IsExtendable, HasEntries};
 
 use crate::tests::{fill, formatted, play_whole};
 use crate::*;
 use heap_palloc::Heap;
-use pm_model::{Memory, Place, Plain, Plan, commit_word, ready_segments};
+use pm_model::{Memory, Place, Plan, commit_word, ready_segments};
 use std::alloc::Global;
 use std::process::Abort;
 use std::test::Fail;
@@ -14,14 +13,24 @@ use std::test::Fail;
 // The places of an object with all its segments.
 const PLACES: u32 = 8_220;
 
-// A formatted image of one segment on which session 1 has begun a transaction, and its heap.
-fn begun(alloc: Global) -> Result<(Plain, Heap), NoMemory>
-    ensures { IfOk result (λ made. IsExtendable (device_of made.0) made.1) }
+// Plays the begin of session 1's transaction. The heap is that of the memory.
+fn begin<M: Memory>(alloc: Global, memory: &mut M, _heap: &Heap) -> Result<(), NoMemory>
+    requires { IsExtendable (M.device memory.old) _heap.now }
+    ensures { IfOk result (λ _. IsExtendable (M.device memory.new) _heap.now) }
 {
-    let (mut memory, heap) = formatted(alloc)?;
     let mut plan = plan_begin(alloc, 1)?;
-    play_whole(&mut memory, &mut plan);
-    Ok((memory, heap))
+    play_whole(memory, &mut plan);
+    Ok(())
+}
+
+// All segments are ready.
+fn check_ready<M: Memory>(rt: &impl Abort, memory: &M, _heap: &Heap)
+    requires { IsExtendable (M.device memory.now) _heap.now }
+    ensures { HasEntries (M.device memory.now) 32 0 }
+{
+    if memory.load(ready_segments(0)) != 32 {
+        panic!(rt; "not all segments are ready");
+    }
 }
 
 // The entry at a place: rows that differ, of 32 tables and of both kinds.
@@ -44,9 +53,9 @@ fn row(nth: u32) -> Entry
 
 // Plays the entry at a place.
 fn enter<M: Memory>(alloc: Global, memory: &mut M, nth: u32) -> Result<(), NoMemory>
-    requires entries { HasEntries (M.device memory.old) nth }
+    requires entries { HasEntries (M.device memory.old) 32 nth }
     requires there { nth < 8220 }
-    ensures { IfOk result (λ _. HasEntries (M.device memory.new) (nth + 1)) }
+    ensures { IfOk result (λ _. HasEntries (M.device memory.new) 32 (nth + 1)) }
 {
     let mut plan = Plan::with_room(alloc, 3)?;
     push_entry(&mut plan, memory, 1, nth, row(nth));
@@ -56,10 +65,10 @@ fn enter<M: Memory>(alloc: Global, memory: &mut M, nth: u32) -> Result<(), NoMem
 
 // Plays those at the places up to a number.
 fn enter_up_to<M: Memory>(alloc: Global, memory: &mut M, from: u32, to: u32) -> Result<(), NoMemory>
-    requires entries { HasEntries (M.device memory.old) from }
+    requires entries { HasEntries (M.device memory.old) 32 from }
     requires range { from ≤ to }
     requires most { to ≤ 8220 }
-    ensures { IfOk result (λ _. HasEntries (M.device memory.new) to) }
+    ensures { IfOk result (λ _. HasEntries (M.device memory.new) 32 to) }
 {
     for nth in from..to {
         enter(alloc, memory, nth)?;
@@ -74,7 +83,7 @@ fn check_entries<M: Memory>(
     memory: &M,
     count: u32,
 ) -> Result<(), NoMemory>
-    requires entries { HasEntries (M.device memory.now) count }
+    requires entries { HasEntries (M.device memory.now) 32 count }
     requires most { count ≤ 8220 }
 {
     let list = entries(alloc, memory, 1)?;
@@ -93,19 +102,20 @@ fn enter_and_check<M: Memory>(
     from: u32,
     to: u32,
 ) -> Result<(), NoMemory>
-    requires entries { HasEntries (M.device memory.old) from }
+    requires entries { HasEntries (M.device memory.old) 32 from }
     requires range { from ≤ to }
     requires most { to ≤ 8220 }
-    ensures { IfOk result (λ _. HasEntries (M.device memory.new) to) }
+    ensures { IfOk result (λ _. HasEntries (M.device memory.new) 32 to) }
 {
     enter_up_to(alloc, memory, from, to)?;
-    check_entries(rt, alloc, memory, to)
+    check_entries(rt, alloc, memory, to)?;
+    Ok(())
 }
 
 // Enters at all places, and checks before and behind the last one of the object and of its first segment.
 fn enter_all<M: Memory>(rt: &impl Abort, alloc: Global, memory: &mut M) -> Result<(), NoMemory>
-    requires { HasEntries (M.device memory.old) 0 }
-    ensures { IfOk result (λ _. HasEntries (M.device memory.new) 8220) }
+    requires { HasEntries (M.device memory.old) 32 0 }
+    ensures { IfOk result (λ _. HasEntries (M.device memory.new) 32 8220) }
 {
     enter_and_check(rt, alloc, memory, 0, 59)?;
     enter_and_check(rt, alloc, memory, 59, 60)?;
@@ -113,13 +123,14 @@ fn enter_all<M: Memory>(rt: &impl Abort, alloc: Global, memory: &mut M) -> Resul
     enter_and_check(rt, alloc, memory, 61, 314)?;
     enter_and_check(rt, alloc, memory, 314, 315)?;
     enter_and_check(rt, alloc, memory, 315, 316)?;
-    enter_and_check(rt, alloc, memory, 316, PLACES)
+    enter_and_check(rt, alloc, memory, 316, PLACES)?;
+    Ok(())
 }
 
 // Plays the store of a commit word.
 fn set_commit_word<M: Memory>(alloc: Global, memory: &mut M) -> Result<(), NoMemory>
-    requires { HasEntries (M.device memory.old) 8220 }
-    ensures { IfOk result (λ _. HasEntries (M.device memory.new) 8220) }
+    requires { HasEntries (M.device memory.old) 32 8220 }
+    ensures { IfOk result (λ _. HasEntries (M.device memory.new) 32 8220) }
 {
     let mut plan = Plan::with_room(alloc, 3)?;
     plan.push_store(commit_word(0), 1);
@@ -129,8 +140,8 @@ fn set_commit_word<M: Memory>(alloc: Global, memory: &mut M) -> Result<(), NoMem
 
 // Retires the transaction, with its commit word.
 fn retire<M: Memory>(alloc: Global, memory: &mut M) -> Result<(), NoMemory>
-    requires { HasEntries (M.device memory.old) 8220 }
-    ensures { IfOk result (λ _. HasEntries (M.device memory.new) 0) }
+    requires { HasEntries (M.device memory.old) 32 8220 }
+    ensures { IfOk result (λ _. HasEntries (M.device memory.new) 32 0) }
 {
     let mut plan = Plan::with_room(alloc, retire_room(PLACES, true))?;
     push_retire(&mut plan, memory, 1, PLACES, true);
@@ -160,11 +171,10 @@ fn check_idle<M: Memory>(rt: &impl Abort, memory: &M) {
 #[test]
 fn a_transaction_fills_its_object(rt: HostRuntime) -> Result<(), Fail> {
     let alloc = rt.alloc();
-    let (mut memory, mut heap) = begun(alloc)?;
+    let (mut memory, mut heap) = formatted(alloc)?;
+    begin(alloc, &mut memory, &heap)?;
     assert!(rt; fill(&rt, alloc, &mut memory, &mut heap).is_ok());
-    if memory.load(ready_segments(0)) != 32 {
-        panic!(rt; "not all segments are ready");
-    }
+    check_ready(&rt, &memory, &heap);
     enter_all(&rt, alloc, &mut memory)?;
     set_commit_word(alloc, &mut memory)?;
     retire(alloc, &mut memory)?;

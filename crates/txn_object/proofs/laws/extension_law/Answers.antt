@@ -1,5 +1,6 @@
 use Rattle.heap_palloc.proofs.Survival.{ended_clean}
 use Rattle.txn_object.proofs.Whole.{extension_shown, extension_survives, extension_stays, apart_from_blocks}
+use Rattle.txn_object.proofs.HalfWay.{half_way}
 use Rattle.txn_object.proofs.Sound.{sound_extends}
 use Rattle.txn_object.proofs.laws.extension_law.Goals as goal
 
@@ -14,6 +15,7 @@ returns c = record {
   clean = λ play n w d playing hit. ended_clean play n d playing w hit;
   again = λ base e may. (extension_shown base e may).again;
   goes_on = λ base e index may is. (extension_shown base e may).goes_on index is;
+  half_way = λ base e index may is. half_way base e may index is;
   object = apart_from_blocks;
   sound = λ words index object number sound is. sound_extends words sound object number index is;
 }
