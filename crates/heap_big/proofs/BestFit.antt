@@ -1,10 +1,14 @@
 -- The first pages of the best fit are taken.
-use Rattle.std.proofs.Common.{◌≡◌, ℕ, ◌+◌, ◌%◌, ◌<◌, ◌≤◌, ◌++◌, ◌∷◌, [], List, length, take, drop, get_or, zero, suc, Some, inl, sym, ap, subst, ◌∙◌, append_assoc, add-one, drop-cons, take-append-drop, arith}
+use Rattle.std.proofs.Common.{◌≡◌, ℕ, ◌+◌, ◌%◌, ◌<◌, ◌≤◌, ◌++◌, ◌∷◌, [], List, length, take, drop, get_or, zero, suc, Some, inl, ⊎_elim, sym, ap, subst, ◌∙◌, append_assoc, add-one, drop-cons, take-append-drop, arith}
 use Rattle.std.specs.Prelude.{IfSome, slice_get}
 use Rattle.std.proofs.Math.ListN.{get_or-map}
-use Rattle.std.proofs.lemmas.List.{length-map}
+use Rattle.std.proofs.lemmas.List.{length-map, get_or-map as map-at}
 use Rattle.std.proofs.lemmas.Option.{slice_get-get_or}
+use Rattle.std.proofs.lemmas.Bool.{cases_eq}
+use Rattle.std.proofs.lemmas.List.Elements.{Contains-get_or}
 use Rattle.heap_big.specs.declared.run.Run.{Run}
+use Rattle.heap_big.specs.Starts.{HasRun, IsShortest, Indexes}
+use Rattle.heap_big.proofs.Indexing.{strictly}
 use Rattle.heap_big.specs.Runs.{end_of, HasPage, IsFree, IsInSegment, next_place, AreRuns, Removes}
 use Rattle.heap_big.specs.Fit.{lengths, rest_of, IsBestFit, TakesBestFit}
 use Rattle.heap_big.proofs.Chains.{low_le_high, free_behind}
@@ -19,6 +23,32 @@ segment_at : (low high : ℕ) (runs : List Run) (k : ℕ) (other : Run) → AreR
 segment_at low high [] k other order within = absurd (omega arith)
 segment_at low high (run ∷ runs) zero other order within = order.1
 segment_at low high (run ∷ runs) (suc k) other order within = segment_at (next_place run) high runs k other order.2 (omega arith)
+
+-- the shortest run of the index, at its place
+pub best_fit_at : (high : ℕ) (starts : List (List ℕ)) (runs : List Run) (pages : ℕ) (best : Run) (at : ℕ) → AreRuns 0 runs high → Indexes starts runs → IsShortest starts pages best
+    → at < length runs → get_or runs at best ≡ best → IsBestFit pages (lengths runs) at
+best_fit_at high starts runs pages best at order indexes shortest within is =
+    let size : (k : ℕ) → k < length runs → get_or (lengths runs) k 0 ≡ (get_or runs k best).pages = λ k lt. map-at (λ (r : Run). r.pages) runs k best 0 lt in
+    let count = length-map runs (λ (r : Run). r.pages) in
+    let has : (k : ℕ) → k < length runs → HasRun starts (get_or runs k best) = λ k lt. (indexes (get_or runs k best)).1 (Contains-get_or runs k best lt) in
+    let here : get_or (lengths runs) at 0 ≡ best.pages = size at within ∙ ap (λ (r : Run). r.pages) is in
+    record {
+      within = omega (arith, count, within);
+      fits = omega (arith, here, shortest.fits);
+      shortest = λ k lt long. let inside : k < length runs = omega (arith, count, lt) in let same = size k inside in omega (arith, here, same, shortest.shortest (get_or runs k best) (has k inside) (omega (arith, same, long)));
+      first = λ k lt long.
+          let inside : k < length runs = omega (arith, lt, within) in
+          let same = size k inside in
+          let le = shortest.shortest (get_or runs k best) (has k inside) (omega (arith, same, long)) in
+          ⊎_elim
+          (λ (equal : (get_or runs k best).pages ≡ best.pages). absurd (
+          let low = shortest.lowest (get_or runs k best) (has k inside) equal in
+          let up = strictly 0 high runs k at best order lt within in
+          let first = ap (λ (r : Run). r.first) is in
+          omega (arith, low, up, first)))
+          (λ apart. omega (arith, here, same, le, apart))
+          (cases_eq (get_or runs k best).pages best.pages);
+    }
 
 -- the runs at both sides of one
 parts_at : (runs : List Run) (at : ℕ) (other : Run) → at < length runs → take at runs ++ get_or runs at other ∷ drop (at + 1) runs ≡ runs

@@ -3,8 +3,9 @@ ghost use Rattle.heap_big.specs.Runs.{end_of, HasPage, IsFree, IsInSegment, long
 ghost use Rattle.heap_big.specs.Fit.{TakesBestFit};
 ghost use Rattle.heap_big.specs.Descriptors.{inside_next, IsFreePage};
 
+use crate::front::take_front;
 use crate::join::{join_left, join_right, place_for};
-use crate::search::{best_fit, longest_run, take_front};
+use crate::starts::Starts;
 use crate::{NoMemory, Run};
 use std::alloc::Global;
 use std::marker::Model;
@@ -26,6 +27,7 @@ fn left_behind(page: u16, descriptor: u64, inside: u64) -> u64
 #[derive(Debug, Drop)]
 pub struct Runs {
     runs: Vec<Run>,
+    starts: Starts,
     page_count: u32,
 }
 
@@ -55,6 +57,7 @@ impl Runs {
     {
         let mut index = Runs {
             runs: Vec::with_capacity(alloc, descriptors.len())?,
+            starts: Starts::new(alloc)?,
             page_count: descriptors.len() as u32,
         };
         let mut inside = 0;
@@ -102,8 +105,9 @@ impl Runs {
         ensures page_count { self.new.page_count ≡ self.old.page_count }
         ensures well_formed { IsWellFormed self.new }
     {
-        let at = best_fit(&self.runs, pages)?;
-        Some(take_front(&mut self.runs, at, pages))
+        let best = self.starts.shortest(pages)?;
+        let at = place_for(&self.runs, best.first) - 1;
+        Some(take_front(&mut self.runs, &mut self.starts, at, pages))
     }
 
     /// Makes the pages of the run free. It joins its neighbours of the same segment.
@@ -116,8 +120,8 @@ impl Runs {
         ensures well_formed { IsWellFormed self.new }
     {
         let at = place_for(&self.runs, run.first);
-        let run = join_right(&mut self.runs, at, run);
-        join_left(&mut self.runs, at, run);
+        let run = join_right(&mut self.runs, &mut self.starts, at, run);
+        join_left(&mut self.runs, &mut self.starts, at, run);
     }
 
     /// The pages of the longest run, 0 where no page is free.
@@ -126,7 +130,7 @@ impl Runs {
         ensures greatest { IsGreatest self.now.runs result }
         ensures well_formed { IsWellFormed self.now }
     {
-        longest_run(&self.runs)
+        self.starts.longest()
     }
 
     /// The runs in ascending place.

@@ -7,7 +7,7 @@ use Rattle.pm_model.specs.Places.{page_at, page_count}
 use Rattle.pm_model.specs.Blocks.{Block, descriptor_of, says_small, inside_after, inside_at, is_inside, is_free_page, is_small_page, bitmap_of, blocks_of_page, live_blocks}
 use Rattle.heap_palloc.specs.Shown.{GainsOne}
 use Rattle.heap_palloc.specs.Index.{has_room}
-use Rattle.heap_palloc.proofs.Gains.{flat_map-gains}
+use Rattle.heap_big.proofs.Gains.{flat_map-gains}
 use Rattle.heap_palloc.proofs.LiveBlocks.{blocks_by, blocks_of_page-by}
 use Rattle.heap_palloc.proofs.Pages.{free_descriptor-blocks}
 use Rattle.heap_palloc.proofs.Rooms.{room-same, free-same}

@@ -19,7 +19,7 @@ use Rattle.heap_palloc.specs.Law.{KeepsElsewhere, Shows, ChangesShown, Allocates
 use Rattle.pm_model.proofs.Cuts.{finished-append, each_cut-unless_empty, finished-unless_empty, plan-unless_empty, plan-append}
 use Rattle.heap_palloc.proofs.Changes.{shows-idle, changes-front, changes-origin}
 use Rattle.heap_palloc.specs.Index.{has_room}
-use Rattle.heap_palloc.proofs.Gains.{flat_map-same}
+use Rattle.heap_big.proofs.Gains.{flat_map-same}
 use Rattle.heap_palloc.proofs.LiveBlocks.{SameInside, is_inside-same, is_small_page-same, blocks_of_page-same}
 use Rattle.heap_palloc.proofs.Pages.{free_descriptor-blocks}
 use Rattle.heap_palloc.proofs.Rooms.{room-same}

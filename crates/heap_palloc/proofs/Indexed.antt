@@ -11,7 +11,7 @@ use Rattle.heap_small.proofs.Bitmaps.{without_bit-same}
 use Rattle.heap_big.specs.declared.run.Run.{Run}
 use Rattle.heap_big.specs.Runs.{HasPage, IsWellFormed, Adds, Removes}
 use Rattle.heap_palloc.specs.Parts.{allocation_parts, new_page_allocation_parts, big_allocation_parts, freeing_parts, small_freeing_parts}
-use Rattle.heap_palloc.specs.Rising.{IsRising}
+use Rattle.heap_big.specs.Pages.{IsRising}
 use Rattle.heap_palloc.specs.Shown.{GainsOne}
 use Rattle.heap_palloc.specs.Law.{IsSmallPage, Slot, slot_allocation, taking, taken, Pages, pages_allocation, MayTakeSlot, MayTakeNewSlot, MayFreeSlot, MayTakeRun, MayFreePages}
 use Rattle.heap_palloc.specs.Index.{HeapIndex, rooms_of, is_full, has_room, IsIndexOf}

@@ -8,7 +8,6 @@ pub mod Choosing
 pub mod Dests
 pub mod Forgetting
 pub mod Freeing
-pub mod Gains
 pub mod GivenBack
 pub mod Indexed
 pub mod LiveBlocks
@@ -16,13 +15,11 @@ pub mod Longest
 pub mod OwnedDests
 pub mod Owners
 pub mod PageCalls
-pub mod PageListSteps
 pub mod PagePlans
 pub mod Pages
 pub mod Planned
 pub mod Ranges
 pub mod Reindex
-pub mod Rising
 pub mod Rooms
 pub mod RulesKept
 pub mod Scans

@@ -7,7 +7,7 @@ use Rattle.pm_model.specs.Fixed.{descriptor_at}
 use Rattle.pm_model.specs.Places.{below, page_at, page_count}
 use Rattle.pm_model.specs.Blocks.{Block, slot_words, slots_of, slot_at, descriptor_of, says_small, says_big, inside_after, inside_at, is_inside, is_small_page, bitmap_of, blocks_of_page, live_blocks}
 use Rattle.heap_palloc.specs.Shown.{GainsOne}
-use Rattle.heap_palloc.proofs.Gains.{flat_map-same, flat_map-gains}
+use Rattle.heap_big.proofs.Gains.{flat_map-same, flat_map-gains}
 
 -- ── a page's blocks, by whether it stands inside a big block, its descriptor and its bitmap ──
 

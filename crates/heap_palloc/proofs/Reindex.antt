@@ -6,7 +6,7 @@ use Rattle.pm_model.specs.Places.{page_count}
 use Rattle.pm_model.specs.Blocks.{says_small, descriptor_of, class_of, bitmap_of, is_inside, is_free_page, is_small_page}
 use Rattle.heap_big.specs.declared.run.Run.{Run}
 use Rattle.heap_big.specs.Runs.{FreeRuns, HasPage, IsFree, IsWellFormed, Adds, Removes}
-use Rattle.heap_palloc.specs.Rising.{IsRising}
+use Rattle.heap_big.specs.Pages.{IsRising}
 use Rattle.heap_palloc.specs.Shown.{GainsOne}
 use Rattle.heap_palloc.specs.Law.{IsSmallPage}
 use Rattle.heap_palloc.specs.Index.{HeapIndex, rooms_of, is_full, has_room, pages_with_room, IsIndexOf}

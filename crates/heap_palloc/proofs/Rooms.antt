@@ -8,11 +8,11 @@ use Rattle.pm_model.specs.Places.{below, page_count}
 use Rattle.pm_model.specs.Blocks.{slots_of, descriptor_of, class_of, bitmap_of, is_inside, is_free_page, is_small_page}
 use Rattle.pm_model.proofs.Members.{Contains-below, below-Contains, Contains-filter, filter-Contains}
 use Rattle.heap_small.specs.Bitmap.{AreSetBelow}
-use Rattle.heap_palloc.specs.Rising.{IsRising}
+use Rattle.heap_big.specs.Pages.{IsRising}
 use Rattle.heap_palloc.specs.Shown.{GainsOne}
 use Rattle.heap_palloc.specs.Index.{is_full, has_room, pages_with_room}
-use Rattle.heap_palloc.proofs.Gains.{filter-gains}
-use Rattle.heap_palloc.proofs.Rising.{rising-higher, gains-settled, losses-settled, filter-rising}
+use Rattle.heap_big.proofs.Gains.{filter-gains}
+use Rattle.heap_big.proofs.Rising.{rising-higher, gains-settled, losses-settled, filter-rising}
 
 -- ── a bitmap that is full ──
 

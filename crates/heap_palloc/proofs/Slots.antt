@@ -12,7 +12,7 @@ use Rattle.heap_palloc.specs.Parts.{Allocation}
 use Rattle.heap_palloc.specs.Shown.{IsOutsideLane, SameButLane, IsAt, GainsOne}
 use Rattle.heap_palloc.specs.Law.{slot_block, IsOwnerPlace, IsHeapPage, IsSmallPage}
 use Rattle.heap_small.proofs.Bitmaps.{without_bit-is}
-use Rattle.heap_palloc.proofs.Gains.{gains-map, filter-gains}
+use Rattle.heap_big.proofs.Gains.{gains-map, filter-gains}
 use Rattle.heap_palloc.proofs.LiveBlocks.{small_blocks, blocks_of_page-by, is_small_page-same, SameHeap, OnePage, live_blocks-gains}
 
 -- ── the bit of a slot ──

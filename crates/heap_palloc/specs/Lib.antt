@@ -3,7 +3,5 @@ pub mod Choice
 pub mod Index
 pub mod Lane
 pub mod Law
-pub mod PageLists
 pub mod Parts
-pub mod Rising
 pub mod Shown

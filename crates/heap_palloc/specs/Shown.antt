@@ -1,5 +1,5 @@
 -- What the words show of an allocation or a freeing, and when one may begin.
-use Rattle.std.specs.Prelude.{◌≡◌, ◌≢◌, ◌⊎◌, ℕ, ◌<◌, ◌≤◌, true, List, ◌∷◌, ◌++◌, length, slice_index}
+use Rattle.std.specs.Prelude.{◌≡◌, ◌≢◌, ◌⊎◌, ℕ, ◌<◌, ◌≤◌, true, List, length, slice_index}
 use Rattle.pm_model.specs.declared.action.Action.{Action}
 use Rattle.pm_model.specs.Fixed.{descriptor_at, lane_op_at, lane_dest_at, lane_block_at}
 use Rattle.pm_model.specs.Pointer.{pointer_word}
@@ -7,6 +7,7 @@ use Rattle.pm_model.specs.Places.{page_of}
 use Rattle.pm_model.specs.Plans.{EachCut, finished}
 use Rattle.heap_palloc.specs.Lane.{is_big_place, mark_at, unmarked, mended_lane}
 use Rattle.heap_palloc.specs.Parts.{Allocation}
+pub use Rattle.heap_big.specs.Pages.{GainsOne}
 
 -- a place outside the words of the lane
 abbrev pub IsOutsideLane : ℕ → ℕ → Type 0
@@ -68,10 +69,3 @@ pub record IsAtomic (lane : ℕ) (parts : List (List Action)) (base : List ℕ) 
   pub cuts : EachCut (λ image. SameButLane lane base (mended_lane lane image) ⊎ SameButLane lane (finished parts base) (mended_lane lane image)) parts base
   pub idle : slice_index (finished parts base) (lane_op_at lane) ≡ 0
   pub ends : mended_lane lane (finished parts base) ≡ finished parts base
-
--- One element more, anywhere in the list.
-pub record GainsOne {A : Type 0} (old : List A) (one : A) (new : List A) : Type 0 where
-  pub front : List A
-  pub back : List A
-  pub old_is : old ≡ front ++ back
-  pub new_is : new ≡ front ++ one ∷ back

@@ -4,22 +4,19 @@ ghost use Rattle.heap_big.specs.Runs.{end_of, HasPage, IsFree, IsInSegment, IsGr
 ghost use Rattle.heap_big.specs.Fit.{TakesBestFit};
 ghost use Rattle.heap_palloc.specs.declared.error.AllocError.TheVariants.{Full};
 ghost use Rattle.heap_palloc.specs.Index.{rooms_of};
-ghost use Rattle.heap_palloc.specs.Rising.{IsRising};
+ghost use Rattle.heap_big.specs.Pages.{IsRising};
 ghost use Rattle.heap_palloc.specs.Shown.{GainsOne};
 
 use crate::error::AllocError;
-use crate::page_list::PageList;
-use heap_big::{Run, Runs};
+use heap_big::{PageSet, Run, Runs};
 use heap_small::Class;
-use pm_model::NoMemory;
-use std::alloc::Global;
 use std::marker::Model;
 
 /// The volatile index of a heap: its free runs, and of each class the small pages with a free slot.
 #[derive(Debug, Drop)]
 pub struct Heap {
     pub(crate) runs: Runs,
-    pub(crate) rooms: [PageList; 6],
+    pub(crate) rooms: [PageSet; 6],
 }
 
 impl Model for Heap {
@@ -32,32 +29,21 @@ impl Model for Heap {
 
 impl Heap {
     /// The index with these free runs and no page with room.
-    pub(crate) fn with_runs(alloc: Global, runs: Runs) -> Result<Heap, NoMemory>
-        ensures free { IfOk result (λ heap. heap.free ≡ runs) }
-        ensures rooms { IfOk result (λ heap. (class : ℕ) → rooms_of heap class ≡ []) }
+    pub(crate) fn with_runs(runs: Runs) -> Heap
+        ensures free { result.free ≡ runs }
+        ensures rooms { (class : ℕ) → rooms_of result class ≡ [] }
     {
-        Ok(Heap {
+        Heap {
             runs,
             rooms: [
-                PageList::new(alloc)?,
-                PageList::new(alloc)?,
-                PageList::new(alloc)?,
-                PageList::new(alloc)?,
-                PageList::new(alloc)?,
-                PageList::new(alloc)?,
+                PageSet::new(),
+                PageSet::new(),
+                PageSet::new(),
+                PageSet::new(),
+                PageSet::new(),
+                PageSet::new(),
             ],
-        })
-    }
-
-    /// Adds a small page that has a free slot and is lower than all those of its class.
-    pub(crate) fn push_room(&mut self, class: Class, page: u16)
-        requires { IsRising (page + 1) (rooms_of self.old class) 8192 }
-        ensures pushed { rooms_of self.new class ≡ page ∷ rooms_of self.old class }
-        ensures others { (other : ℕ) → other ≢ class → rooms_of self.new other ≡ rooms_of self.old other }
-        ensures free { self.new.free ≡ self.old.free }
-    {
-        let pages = &mut self.rooms[usize::from(class.number())];
-        pages.push_lowest(page);
+        }
     }
 
     /// The lowest small page of the class with a free slot; none where there is none.

@@ -7,7 +7,6 @@ mod error;
 mod free;
 mod heap;
 mod laws;
-mod page_list;
 mod parts;
 mod reading;
 

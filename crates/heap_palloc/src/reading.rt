@@ -3,7 +3,7 @@ ghost use Rattle.std.specs.Prelude.{◌≡◌, ◌+◌, ◌*◌, ◌<◌, ◌≤
 ghost use Rattle.std.specs.List.{range_with_len};
 ghost use Rattle.pm_model.specs.Places.{below, page_count};
 ghost use Rattle.pm_model.specs.Blocks.{descriptor_of, says_small, inside_after, is_small_page};
-ghost use Rattle.heap_palloc.specs.Rising.{IsRising};
+ghost use Rattle.heap_big.specs.Pages.{IsRising};
 ghost use Rattle.heap_palloc.specs.Index.{IsIndexOf, has_room, rooms_of, pages_with_room};
 
 use crate::heap::Heap;
@@ -28,7 +28,7 @@ pub fn reopen<M: Memory>(alloc: Global, mem: &M) -> Result<Heap, NoMemory>
 {
     let scan = scan_pages(alloc, mem)?;
     let runs = Runs::from_descriptors(alloc, &scan.descriptors)?;
-    let mut heap = Heap::with_runs(alloc, runs)?;
+    let mut heap = Heap::with_runs(runs);
     add_rooms(mem, &mut heap, scan.small);
     Ok(heap)
 }
@@ -115,6 +115,6 @@ fn add_room<M: Memory>(mem: &M, heap: &mut Heap, page: u16)
     let class = Class::new((value - SMALL_PAGE) as u8);
     let bitmap = mem.load(Place(PAGE_WORDS * u32::from(page)));
     if first_free(bitmap, class).is_some() {
-        heap.push_room(class, page);
+        heap.add_room(class, page);
     }
 }

@@ -1,9 +1,9 @@
 use Rattle.std.proofs.Common.{ℕ, ◌+◌, List, refl, sym, ◌∙◌, subst, arith}
 use Rattle.std.specs.Prelude.{Contains}
 use Rattle.pm_model.specs.Places.{page_count}
-use Rattle.heap_palloc.specs.Rising.{IsRising}
+use Rattle.heap_big.specs.Pages.{IsRising}
 use Rattle.heap_palloc.specs.Index.{has_room, rooms_of}
-use Rattle.heap_palloc.proofs.Rising.{rising-lower}
+use Rattle.heap_big.proofs.Rising.{rising-lower}
 use Rattle.heap_palloc.proofs.Scans.{rooms_start, rooms_step, rooms_rise, small_in, small_rise, popped, contains_front, contains_last}
 use Rattle.heap_palloc.proofs.reading.add_rooms.Goals as goal
 
