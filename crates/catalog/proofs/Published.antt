@@ -1,11 +1,10 @@
 -- The published tables of words that show a creation: those before it, and where it is done the new one behind them.
-use Rattle.std.proofs.Common.{◌≡◌, ◌≢◌, ◌⊎◌, inl, ⊎_elim, ℕ, zero, suc, ◌+◌, ◌*◌, ◌/◌, ◌^◌, ◌%◌, ◌<◌, ◌≤◌, true, not, ◌&&◌, eqb, ltb, List, [], ◌∷◌, ◌++◌, length, map, take_while, get_or, refl, sym, ◌∙◌, ap, IsTrue, arith}
-use Rattle.std.specs.List.{flat_map, range_with_len}
-use Rattle.std.proofs.lemmas.Bool.{and_parts, eqb-true, ne_eqb}
+use Rattle.std.proofs.Common.{◌≡◌, inl, ℕ, zero, suc, ◌+◌, ◌*◌, ◌/◌, ◌^◌, ◌%◌, ◌<◌, not, eqb, List, [], ◌∷◌, ◌++◌, map, take_while, get_or, refl, sym, ◌∙◌, ap, arith}
+use Rattle.std.specs.List.{range_with_len}
 use Rattle.mv_model.specs.declared.shape.Column.{Column}
-use Rattle.pm_model.specs.Fixed.{table_count_at, table_slot_at}
-use Rattle.pm_model.specs.Places.{below, is_pointer, packed_byte, place_in}
-use Rattle.pm_model.specs.Records.{column_at, columns_at, table_name_at, table_words}
+use Rattle.pm_model.specs.Fixed.{table_slot_at}
+use Rattle.pm_model.specs.Places.{below, packed_byte, place_in}
+use Rattle.pm_model.specs.Records.{column_at, table_name_at, table_words}
 use Rattle.pm_model.specs.Tables.{table_count, table_block, columns_of, is_text}
 use Rattle.pm_model.specs.EntryRules.{KeepsEntryRules}
 use Rattle.pm_model.specs.Owners.{OwnersAreApart}
@@ -15,12 +14,12 @@ use Rattle.heap_palloc.specs.Law.{IsElsewhere}
 use Rattle.shown_state.specs.LogicalState.{name_at, column_of, kind_of}
 use Rattle.shown_state.proofs.Walks.{pointers_name_their_place}
 use Rattle.catalog.specs.Entries.{CatalogTable, HasNames, published_table, published_tables}
-use Rattle.catalog.specs.Creation.{Creation, new_block, table_record}
+use Rattle.catalog.specs.Creation.{Creation, new_block}
 use Rattle.catalog.specs.Shown.{IsCreated, IsUncreated, IsUntouched, KeepsUntouched, MayCreateOn, new_table}
 use Rattle.catalog.proofs.Filling.{length-table_record}
 use Rattle.catalog.proofs.Lists.{column_same, map_next}
 use Rattle.catalog.proofs.OldBlocks.{old_word}
-use Rattle.catalog.proofs.ReadBack.{HasNameBytes, name_bytes, table_name_back, columns_back}
+use Rattle.catalog.proofs.ReadBack.{name_bytes, table_name_back, columns_back}
 use Rattle.catalog.proofs.Surviving.{block_high, fixed_elsewhere, lane_low}
 
 -- numbers below one that two functions don't tell apart

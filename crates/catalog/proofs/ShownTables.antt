@@ -1,30 +1,29 @@
 -- The tables of the shown state, of words that show a creation: those before it with the same next rows, and where it is
 -- done the new one behind them.
-use Rattle.std.proofs.Common.{◌≡◌, ◌≢◌, ◌⊎◌, inl, inr, ⊎_elim, ℕ, zero, suc, ◌+◌, ◌*◌, ◌/◌, ◌<◌, ◌≤◌, max, Bool, true, false, not, ◌&&◌, ◌||◌, cond, eqb, ltb, List, [], ◌∷◌, ◌++◌, length, get_or, map, refl, sym, ◌∙◌, ap, subst, arith}
+use Rattle.std.proofs.Common.{◌≡◌, ◌⊎◌, inl, inr, ⊎_elim, ℕ, zero, suc, ◌+◌, ◌<◌, ◌≤◌, max, Bool, true, false, not, ◌&&◌, ◌||◌, cond, eqb, ltb, List, [], ◌∷◌, ◌++◌, get_or, map, refl, sym, ◌∙◌, ap, subst, arith}
 use Rattle.std.specs.Prelude.{All, Contains, filter, fold}
 use Rattle.std.specs.List.{flat_map}
-use Rattle.std.proofs.lemmas.Bool.{and_parts, both_ways, cases_Bool, cases_eq, eqb-true, eq-eqb, ltb-true, not-true, or_cases}
-use Rattle.std.proofs.lemmas.List.Elements.{All-contains, All-head, All-tail, Contains-append_cases}
+use Rattle.std.proofs.lemmas.Bool.{and_parts, both_ways, cases_Bool, eqb-true, eq-eqb, ltb-true, not-true, or_cases}
+use Rattle.std.proofs.lemmas.List.Elements.{All-head, All-tail, Contains-append_cases}
 use Rattle.mv_model.specs.declared.shape.Column.{Column}
 use Rattle.mv_model.specs.State.{Table}
 use Rattle.pm_model.specs.Fixed.{entry_at, first_segment_at, ready_at, state_at, table_slot_at}
 use Rattle.pm_model.specs.Places.{below, place_in}
-use Rattle.pm_model.specs.Records.{columns_at, high_at, segment_entry_at, table_name_at}
+use Rattle.pm_model.specs.Records.{high_at, segment_entry_at, table_name_at}
 use Rattle.pm_model.specs.Checks.{check}
 use Rattle.pm_model.specs.EntryRules.{KeepsEntryRules, entry_checks, entries_rule, is_entry, stamped_capacity}
 use Rattle.pm_model.specs.Objects.{is_open, ready_count, ready_segments, segment_pointer_at, segment_of, entry_places, entries, entry_kind, entry_table, entry_row}
 use Rattle.pm_model.specs.Owners.{OwnersAreApart}
 use Rattle.pm_model.specs.Tables.{table_count, table_block, columns_of}
 use Rattle.pm_model.proofs.Heap.{Holds}
-use Rattle.pm_model.proofs.Members.{below-Contains, Contains-below, Contains-here, Contains-there, Contains-cons, Contains-nil, Contains-filter, filter-Contains, Contains-flat_map, Contains-map}
+use Rattle.pm_model.proofs.Members.{Contains-below, Contains-here, Contains-there, Contains-cons, Contains-nil, Contains-filter, Contains-flat_map, Contains-map}
 use Rattle.pm_model.proofs.OwnedBlocks.{keeps_one, one_object, ready_named, segment_live}
-use Rattle.pm_model.proofs.OwnersApart.{LiveAt}
 use Rattle.heap_palloc.specs.Choice.{choice_page, choice_pages}
 use Rattle.heap_palloc.specs.Law.{IsElsewhere}
 use Rattle.shown_state.specs.LogicalState.{logical_state, name_at, column_of, table_of, next_row_of, open_bound, created_rows, row_bound}
-use Rattle.catalog.specs.Entries.{CatalogTable, HasNames, published_table}
-use Rattle.catalog.specs.Creation.{Creation, new_block, table_record}
-use Rattle.catalog.specs.Shown.{IsCreated, IsUncreated, IsUntouched, KeepsUntouched, MayCreateOn, new_table, shown_table}
+use Rattle.catalog.specs.Entries.{CatalogTable, HasNames}
+use Rattle.catalog.specs.Creation.{Creation, new_block}
+use Rattle.catalog.specs.Shown.{IsCreated, IsUncreated, KeepsUntouched, MayCreateOn, shown_table}
 use Rattle.catalog.proofs.Filling.{length-table_record}
 use Rattle.catalog.proofs.Lists.{map_next}
 use Rattle.catalog.proofs.OldBlocks.{old_word}
