@@ -1,10 +1,9 @@
 -- In each cut of a creation its lane is idle or allocates, so that opening's steps mend as the lane and the slot are mended.
-use Rattle.std.proofs.Common.{◌≡◌, ◌+◌, ℕ, ◌<◌, ◌≤◌, List, [], ◌∷◌, ◌++◌, length, get_or, map, set, sym, ◌∙◌, ap, subst, arith}
+use Rattle.std.proofs.Common.{◌≡◌, ◌+◌, ℕ, ◌<◌, ◌≤◌, List, [], ◌∷◌, length, get_or, map, set, sym, ◌∙◌, ap, subst, arith}
 use Rattle.std.specs.Prelude.{filter}
 use Rattle.std.proofs.Common.{eqb}
 use Rattle.std.specs.List.{range_with_len}
-use Rattle.pm_model.specs.declared.action.Action.{Action}
-use Rattle.pm_model.specs.Fixed.{descriptor_at, lane_op_at, table_count_at}
+use Rattle.pm_model.specs.Fixed.{descriptor_at, lane_op_at}
 use Rattle.pm_model.specs.Places.{page_of, page_at}
 use Rattle.pm_model.specs.Plans.{Part, EachCut, finished, store, unless_empty}
 use Rattle.pm_model.specs.Needed.{Stores, StoresOfParts}
@@ -12,7 +11,7 @@ use Rattle.pm_model.proofs.NeededStores.{cuts-written, parts-append}
 use Rattle.heap_small.specs.Bitmap.{with_bit}
 use Rattle.heap_palloc.specs.Choice.{Choice, in_page, on_new_page, in_run, choice_parts, IsThrough, MayMake}
 use Rattle.heap_palloc.specs.Lane.{mended_lane}
-use Rattle.heap_palloc.specs.Law.{Slot, slot_allocation, taking, pages_allocation}
+use Rattle.heap_palloc.specs.Law.{slot_allocation, taking, pages_allocation}
 use Rattle.heap_palloc.specs.Parts.{Allocation, allocation_parts, new_page_parts, forget_given_back}
 use Rattle.heap_palloc.specs.Shown.{MayAllocate}
 use Rattle.heap_palloc.proofs.BigPlans.{take_pages_may}

@@ -12,5 +12,6 @@ pub mod Planning
 pub mod Published
 pub mod ReadBack
 pub mod Rebuilding
+pub mod ShownTables
 pub mod Surviving
 pub mod Tested

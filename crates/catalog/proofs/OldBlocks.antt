@@ -1,8 +1,8 @@
 -- The words of the blocks that were live before a creation: neither it nor its mending writes one.
-use Rattle.std.proofs.Common.{◌≡◌, ◌≢◌, ◌⊎◌, inl, inr, ⊎_elim, ℕ, ◌+◌, ◌%◌, ◌<◌, ◌≤◌, true, false, not, leb, List, length, sym, ◌∙◌, ap, subst, arith}
+use Rattle.std.proofs.Common.{◌≡◌, ◌≢◌, ◌⊎◌, inl, inr, ⊎_elim, ℕ, ◌+◌, ◌<◌, ◌≤◌, true, not, leb, List, length, ap, subst, arith}
 use Rattle.std.specs.Prelude.{Contains}
 use Rattle.std.proofs.lemmas.Bool.{both_ways, and_from, not_from_false, le-leb}
-use Rattle.pm_model.specs.Fixed.{descriptor_at, table_slot_at}
+use Rattle.pm_model.specs.Fixed.{table_slot_at}
 use Rattle.pm_model.specs.Places.{page_of, page_at}
 use Rattle.pm_model.specs.Plans.{finished}
 use Rattle.pm_model.specs.Blocks.{Block, descriptor_of, is_free_page, is_inside, is_small_page, live_blocks}

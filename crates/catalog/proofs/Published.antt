@@ -1,11 +1,10 @@
 -- The published tables of words that show a creation: those before it, and where it is done the new one behind them.
-use Rattle.std.proofs.Common.{◌≡◌, ◌≢◌, ◌⊎◌, inl, ⊎_elim, ℕ, zero, suc, ◌+◌, ◌*◌, ◌/◌, ◌^◌, ◌%◌, ◌<◌, ◌≤◌, true, not, ◌&&◌, eqb, ltb, List, [], ◌∷◌, ◌++◌, length, map, take_while, get_or, refl, sym, ◌∙◌, ap, IsTrue, arith}
-use Rattle.std.specs.List.{flat_map, range_with_len}
-use Rattle.std.proofs.lemmas.Bool.{and_parts, eqb-true, ne_eqb}
+use Rattle.std.proofs.Common.{◌≡◌, inl, ℕ, zero, suc, ◌+◌, ◌*◌, ◌/◌, ◌^◌, ◌%◌, ◌<◌, not, eqb, List, [], ◌∷◌, ◌++◌, map, take_while, get_or, refl, sym, ◌∙◌, ap, arith}
+use Rattle.std.specs.List.{range_with_len}
 use Rattle.mv_model.specs.declared.shape.Column.{Column}
-use Rattle.pm_model.specs.Fixed.{table_count_at, table_slot_at}
-use Rattle.pm_model.specs.Places.{below, is_pointer, packed_byte, place_in}
-use Rattle.pm_model.specs.Records.{column_at, columns_at, table_name_at, table_words}
+use Rattle.pm_model.specs.Fixed.{table_slot_at}
+use Rattle.pm_model.specs.Places.{below, packed_byte, place_in}
+use Rattle.pm_model.specs.Records.{column_at, table_name_at, table_words}
 use Rattle.pm_model.specs.Tables.{table_count, table_block, columns_of, is_text}
 use Rattle.pm_model.specs.EntryRules.{KeepsEntryRules}
 use Rattle.pm_model.specs.Owners.{OwnersAreApart}
@@ -15,12 +14,12 @@ use Rattle.heap_palloc.specs.Law.{IsElsewhere}
 use Rattle.shown_state.specs.LogicalState.{name_at, column_of, kind_of}
 use Rattle.shown_state.proofs.Walks.{pointers_name_their_place}
 use Rattle.catalog.specs.Entries.{CatalogTable, HasNames, published_table, published_tables}
-use Rattle.catalog.specs.Creation.{Creation, new_block, table_record}
+use Rattle.catalog.specs.Creation.{Creation, new_block}
 use Rattle.catalog.specs.Shown.{IsCreated, IsUncreated, IsUntouched, KeepsUntouched, MayCreateOn, new_table}
 use Rattle.catalog.proofs.Filling.{length-table_record}
 use Rattle.catalog.proofs.Lists.{column_same, map_next}
 use Rattle.catalog.proofs.OldBlocks.{old_word}
-use Rattle.catalog.proofs.ReadBack.{HasNameBytes, name_bytes, table_name_back, columns_back}
+use Rattle.catalog.proofs.ReadBack.{name_bytes, table_name_back, columns_back}
 use Rattle.catalog.proofs.Surviving.{block_high, fixed_elsewhere, lane_low}
 
 -- numbers below one that two functions don't tell apart
@@ -37,7 +36,7 @@ map_same {X} f g a (suc n) each =
     there : (p k : ℕ) → p + 1 + k ≡ p + suc k
     there p k = omega arith
 
-same_below : {X : Type 0} (f g : ℕ → X) (n : ℕ) → ((k : ℕ) → k < n → f k ≡ g k) → map f (below n) ≡ map g (below n)
+pub same_below : {X : Type 0} (f g : ℕ → X) (n : ℕ) → ((k : ℕ) → k < n → f k ≡ g k) → map f (below n) ≡ map g (below n)
 same_below f g n each = map_same f g 0 n (λ k lt. ap f (none k) ∙ each k lt ∙ ap g (sym (none k)))
   where
     none : (k : ℕ) → 0 + k ≡ k
@@ -119,12 +118,15 @@ module _ (base : List ℕ) (c : Creation) (on : MayCreateOn base c) (keeps : Kee
       slot_elsewhere : (lane : ℕ) → lane < 16 → IsElsewhere lane (table_slot_at (table_count base)) (choice_page c.choice) (choice_pages c.choice) (table_slot_at table)
       slot_elsewhere lane low = fixed_elsewhere base c on lane (table_slot_at table) (omega arith) (omega (arith, lt, on.may.count)) (λ e. omega (arith, e, lt))
 
-  old_table : (table : ℕ) → table < table_count base → published_table words table ≡ published_table base table
-  old_table table lt =
+  -- a word of a published table's block
+  pub block_kept : (table : ℕ) → table < table_count base → (k : ℕ) → k < table_words (get_or base (table_block base table) 0) → get_or words (table_block base table + k) 0 ≡ get_or base (table_block base table + k) 0
+  block_kept table lt k within =
       let has = table_live base keeps.reserved keeps.descriptors keeps.table_count keeps.table_slots apart table lt in
-      table_same base words table (kept.each (table_slot_at table) (old_slot table lt))
-      (λ k within. kept.each (table_block base table + k) (old_word base c on has.live.block has.live.live (table_block base table + k)
-      (omega (arith, has.live.first)) (omega (arith, has.live.first, has.live.size, has.holds, within)) (lane_low base c on)))
+      kept.each (table_block base table + k) (old_word base c on has.live.block has.live.live (table_block base table + k)
+      (omega (arith, has.live.first)) (omega (arith, has.live.first, has.live.size, has.holds, within)) (lane_low base c on))
+
+  pub old_table : (table : ℕ) → table < table_count base → published_table words table ≡ published_table base table
+  old_table table lt = table_same base words table (kept.each (table_slot_at table) (old_slot table lt)) (block_kept table lt)
 
   pub old_tables : map (published_table words) (below (table_count base)) ≡ published_tables base
   old_tables = same_below (published_table words) (published_table base) (table_count base) old_table
@@ -133,16 +135,19 @@ pub tables_before : (base : List ℕ) (c : Creation) (words : List ℕ) → MayC
 tables_before base c words on keeps apart is =
     ap (λ (n : ℕ). map (published_table words) (below n)) is.count ∙ old_tables base c on keeps apart words is.keeps
 
-pub tables_after : (base : List ℕ) (c : Creation) (words : List ℕ) → MayCreateOn base c → HasNames c.name c.columns → KeepsEntryRules base → OwnersAreApart base → IsCreated base c words → published_tables words ≡ published_tables base ++ new_table c ∷ []
-tables_after base c words on named keeps apart is =
+-- the new table reads back
+pub new_published : (base : List ℕ) (c : Creation) (words : List ℕ) → HasNames c.name c.columns → IsCreated base c words → published_table words (table_count base) ≡ new_table c
+new_published base c words named is =
     let size = length-table_record c.name c.columns in
     let here : table_block words (table_count base) ≡ new_block c = ap place_in is.slot ∙ pointers_name_their_place (new_block c) in
-    let new : published_table words (table_count base) ≡ new_table c =
     table_parts_same (name_at words (table_name_at (table_block words (table_count base)))) c.name (map (column_of words) (columns_of words (table_block words (table_count base)))) c.columns (table_block words (table_count base)) (new_block c)
     (ap (λ (b : ℕ). name_at words (table_name_at b)) here ∙ table_name_back words (new_block c) c.name c.columns is.record_is size (name_bytes c.name named.name_is))
     (ap (λ (b : ℕ). map (column_of words) (columns_of words b)) here ∙ columns_back words (new_block c) c.name c.columns is.record_is size (λ k d lt. name_bytes (get_or c.columns k d).name (named.columns_are k d lt)))
-    here in
+    here
+
+pub tables_after : (base : List ℕ) (c : Creation) (words : List ℕ) → MayCreateOn base c → HasNames c.name c.columns → KeepsEntryRules base → OwnersAreApart base → IsCreated base c words → published_tables words ≡ published_tables base ++ new_table c ∷ []
+tables_after base c words on named keeps apart is =
     ap (λ (n : ℕ). map (published_table words) (below n)) is.count
     ∙ map_next (published_table words) (table_count base)
     ∙ ap (λ (tables : List CatalogTable). tables ++ published_table words (table_count base) ∷ []) (old_tables base c on keeps apart words is.keeps)
-    ∙ ap (λ (table : CatalogTable). published_tables base ++ table ∷ []) new
+    ∙ ap (λ (table : CatalogTable). published_tables base ++ table ∷ []) (new_published base c words named is)

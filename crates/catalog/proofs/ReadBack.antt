@@ -6,7 +6,6 @@ use Rattle.std.specs.Char.{is_ascii_lowercase, is_ascii_digit}
 use Rattle.std.specs.List.{flat_map, list_all, prefix_len, range_with_len}
 use Rattle.std.proofs.lemmas.Bool.{and_parts, eqb-true, leb-true, or_cases}
 use Rattle.std.proofs.lemmas.List.{ext_get_or, get_or-append-add, get_or_append_left, get_or-drop, get_or-take, get_or_past, length-map, length-take-le}
-use Rattle.std.proofs.lemmas.List.FromFn.{get_or-range_with_len, length-range_with_len}
 use Rattle.std.proofs.lemmas.Nat.{le_bytes_8}
 use Rattle.mv_model.specs.declared.shape.Column.{Column}
 use Rattle.mv_model.specs.declared.shape.Kind.{Kind}
@@ -18,7 +17,7 @@ use Rattle.pm_model.specs.Tables.{columns_of, is_text}
 use Rattle.shown_state.specs.LogicalState.{name_at, column_of, kind_of}
 use Rattle.shown_state.specs.Packed.{packed_word}
 use Rattle.catalog.specs.Creation.{kind_word, column_record, head_record, table_record}
-use Rattle.catalog.proofs.Filling.{length-column_record, length-head_record, same_word}
+use Rattle.catalog.proofs.Filling.{length-column_record, length-head_record}
 use Rattle.catalog.proofs.Lists.{column_same}
 use Rattle.catalog.proofs.Names.{some_byte, prefix_is}
 

@@ -1,25 +1,24 @@
 -- Words that keep the rules of tables show tables: their names are names, and their columns are a shape.
 use Rattle.std.proofs.Common.{◌≡◌, ◌≢◌, ◌⊎◌, inl, inr, ⊎_elim, ℕ, zero, suc, ◌+◌, ◌-◌, ◌*◌, ◌/◌, ◌%◌, ◌^◌, ◌<◌, ◌≤◌, Bool, true, false, not, ◌&&◌, ◌||◌, eqb, ltb, leb, List, [], ◌∷◌, ◌++◌, length, map, take, get_or, refl, sym, ◌∙◌, ap, subst, arith}
 use Rattle.std.specs.Prelude.{All, Contains}
-use Rattle.std.specs.Char.{is_ascii_lowercase, is_ascii_digit}
+use Rattle.std.specs.Char.{is_ascii_lowercase}
 use Rattle.std.specs.Cmp.Lexicographic.{same_text}
 use Rattle.std.specs.Int.{w64, from_le_bytes, to_le_bytes}
 use Rattle.std.specs.List.{flat_map, list_all, list_any, prefix_len}
-use Rattle.std.proofs.lemmas.Bool.{cases_Bool, cases_eq, cases_lt, and_from, and_parts, both_ways, eq-eqb, eqb-true, eqb-false, ne_eqb, leb-true, le-leb, lt-ltb, not-true, not_from_false, or_cases, or_left, or_parts, cond-false}
+use Rattle.std.proofs.lemmas.Bool.{cases_Bool, cases_eq, cases_lt, and_from, and_parts, both_ways, eq-eqb, eqb-true, eqb-false, ne_eqb, leb-true, le-leb, lt-ltb, not-true, or_cases, or_left, or_parts, cond-false}
 use Rattle.std.proofs.lemmas.List.{get_or-take, get_or_past, length-map}
 use Rattle.std.proofs.lemmas.List.Elements.{All-contains, All-head, All-tail, Contains-append_left, Contains-append_right}
 use Rattle.std.proofs.lemmas.List.Folds.{length-prefix_len}
 use Rattle.std.proofs.lemmas.List.Sums.{prefix_len-le-length, prefix_len_passes, prefix_len_stops}
 use Rattle.std.proofs.lemmas.Nat.{from_le_bytes-to_le_bytes_8}
-use Rattle.mv_model.specs.declared.shape.Column.{Column}
 use Rattle.mv_model.specs.Name.{is_name, begins_with_lowercase, same_name as equal_names}
-use Rattle.mv_model.specs.Shape.{is_shape, lacks_column, names_differ}
+use Rattle.mv_model.specs.Shape.{lacks_column, names_differ}
 use Rattle.pm_model.specs.Device.{AreWords}
 use Rattle.pm_model.specs.Fixed.{table_slot_at}
 use Rattle.pm_model.specs.Places.{below, packed_byte}
 use Rattle.pm_model.specs.Records.{column_at, column_name_at, columns_at, table_name_at}
 use Rattle.pm_model.specs.Tables.{table_count, table_block, table_blocks, columns_of}
-use Rattle.pm_model.specs.Checks.{Check, check, Keeps}
+use Rattle.pm_model.specs.Checks.{Check, check}
 use Rattle.pm_model.specs.EntryRules.{is_letter, is_name_byte, is_padded_name_byte, kind_check, name_checks, name_rule}
 use Rattle.pm_model.specs.SoundRules.{IsSound, same_name, name_place_checks, table_name_checks, distinct_name_rule}
 use Rattle.pm_model.proofs.Heap.{Holds}

@@ -210,6 +210,9 @@ module _ (base : List ℕ) (c : Creation) (on : MayCreateOn base c) where
   pub block_high : 2048 ≤ new_block c
   block_high = let e = block_is.first_page in let fixed = block_is.page_is.behind_fixed in omega (arith, e, fixed)
 
+  pub page_high : 4 ≤ choice_page c.choice
+  page_high = block_is.page_is.behind_fixed
+
   -- words of the first segment's second page are elsewhere, but for lanes and the slot
   pub fixed_elsewhere : (lane w : ℕ) → 512 ≤ w → w < 576 → w ≢ slot → IsElsewhere lane slot page pages w
   fixed_elsewhere lane w low high apart = record {

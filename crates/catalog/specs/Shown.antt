@@ -1,5 +1,6 @@
 -- What the words of an image show of a creation, once the lane and the table slot at the table count are mended.
 use Rattle.std.specs.Prelude.{◌≡◌, ◌≢◌, ◌⊎◌, ℕ, ◌+◌, ◌%◌, ◌<◌, ◌≤◌, List, length, slice_index}
+use Rattle.mv_model.specs.State.{Table}
 use Rattle.pm_model.specs.Fixed.{lane_op_at, table_count_at, table_slot_at}
 use Rattle.pm_model.specs.Pointer.{pointer_word}
 use Rattle.pm_model.specs.Plans.{finished}
@@ -46,6 +47,10 @@ pub record IsCreated (base : List ℕ) (c : Creation) (words : List ℕ) : Type 
 -- the table as a catalog has it
 abbrev pub new_table : Creation → CatalogTable
 new_table c = record { name = c.name; columns = c.columns; block = new_block c }
+
+-- the table as the shown state has it
+abbrev pub shown_table : Creation → Table
+shown_table c = record { name = c.name; columns = c.columns; next_row = 0 }
 
 -- The creation may begin on whole segments that keep the heap's rules, lane 0 is idle, and the slot behind the one at the
 -- count is null.
