@@ -17,7 +17,7 @@ use std::alloc::Global;
 /// (1 to 10, 12, 14 and 15), and then that nothing is half done (16 to 18), that owner words and live blocks go together one
 /// to one (19 to 21), that stamps are those of commits and stand below their table's bound (27), that pages which were given
 /// back are 0 (29) and that names differ (30). An error names the first rule that the words break, and the place where they
-/// do. Time and memory as for the words and, at n owner words, n log n steps.
+/// do. It makes a few passes over the words, and n log n steps for n owner words, for which it takes memory.
 pub fn check(alloc: Global, words: &[u64]) -> Result<(), CheckError>
     requires segments { length words.now % 32768 ≡ 0 }
     requires one_or_more { 32768 ≤ length words.now }
