@@ -7,7 +7,7 @@ use Rattle.pm_model.specs.Pointer.{pointer_word}
 use Rattle.pm_model.specs.Places.{place_in, is_pointer_to}
 use Rattle.pm_model.specs.Plans.{finished}
 use Rattle.pm_model.specs.Blocks.{Block, live_blocks}
-use Rattle.pm_model.specs.Objects.{ready_count, segment_pointer_at, segment_of, pointer_after}
+use Rattle.pm_model.specs.Objects.{ready_count, segment_pointer_at, segment_of, pointer_after, entries}
 use Rattle.heap_palloc.specs.Index.{HeapIndex, IsIndexOf}
 use Rattle.heap_palloc.specs.Choice.{Choice, choice_parts, choice_block}
 use Rattle.heap_palloc.proofs.RulesKept.{choice_rules}
@@ -94,3 +94,8 @@ by_source base object (allocated choice) may index is =
 pub half_way : (base : List ℕ) (e : Extension) → MayExtend base e → (index : HeapIndex) → IsIndexOf (finished (source_parts base e.source) base) index
     → MayPlanExtension (finished (source_parts base e.source) base) index e.object
 half_way base e may index is = by_source base e.object e.source may index is
+
+-- and its entries stay
+pub half_entries : (base : List ℕ) (object : ℕ) (choice : Choice) → MayExtend base (record { object = object; source = allocated choice }) → entries (finished (choice_parts base choice) base) object ≡ entries base object
+half_entries base object choice may =
+    let (page, stands) = source_stands base object may.segments.rules (allocated choice) may.source in (half_is base object choice may page stands).keeps.entries
