@@ -49,7 +49,7 @@ fn allocate<M: Memory>(
     ensures { IfOk result (λ _. IsInUse (M.device memory.new) heap.new) }
 {
     match plan_allocate(alloc, memory, heap, LANE, words, owner) {
-        Ok((plan, _block)) => Ok(play_whole(memory, plan)),
+        Ok((mut plan, _block)) => Ok(play_whole(memory, &mut plan)),
         Err(AllocError::Full { .. }) => Ok(0),
         Err(AllocError::NoMemory) => Err(AllocError::NoMemory),
     }
@@ -66,20 +66,21 @@ fn free<M: Memory>(
     requires some { slice_index (M.device memory.old).cached owner.0 ≢ 0 }
     ensures { IfOk result (λ _. IsInUse (M.device memory.new) heap.new) }
 {
-    let plan = plan_free(alloc, memory, heap, LANE, owner)?;
-    Ok(play_whole(memory, plan))
+    let mut plan = plan_free(alloc, memory, heap, LANE, owner)?;
+    Ok(play_whole(memory, &mut plan))
 }
 
-// Plays a plan, and gives how many actions it had.
-fn play_whole<M: Memory>(memory: &mut M, mut plan: Plan) -> u32
+// Plays a plan, and gives how many actions it had. What it costs is counted apart.
+#[inline(never)]
+fn play_whole<M: Memory>(memory: &mut M, plan: &mut Plan) -> u32
     requires clean { (w : ℕ) → IsClean (M.device memory.old) w }
-    requires planned { (parts : List Part) × (plan.left ≡ plan_of parts) × IsPlan (length (M.device memory.old).cached) parts }
-    ensures words { (parts : List Part) → plan.left ≡ plan_of parts → IsPlan (length (M.device memory.old).cached) parts →
+    requires planned { (parts : List Part) × (plan.old.left ≡ plan_of parts) × IsPlan (length (M.device memory.old).cached) parts }
+    ensures words { (parts : List Part) → plan.old.left ≡ plan_of parts → IsPlan (length (M.device memory.old).cached) parts →
         (M.device memory.new).cached ≡ finished parts (M.device memory.old).cached }
     ensures clean { (w : ℕ) → IsClean (M.device memory.new) w }
 {
     let count = plan.len();
-    play(memory, SESSION, &mut plan, count);
+    play(memory, SESSION, plan, count);
     count
 }
 
