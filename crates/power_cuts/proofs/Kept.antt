@@ -51,7 +51,7 @@ keeps_undo words none =
       entries = kept 12 (record { number = 0; rule = reserved_rule }) (omega arith);
     }
 
-keeps_object : (words : List ℕ) (object : ℕ) → object < 16 → Keeps words objects_rule → Keeps words (object_rule object)
+pub keeps_object : (words : List ℕ) (object : ℕ) → object < 16 → Keeps words objects_rule → Keeps words (object_rule object)
 unfolding objects_rule
 keeps_object words object lt keeps = record {
   checks = λ k d within.

@@ -7,6 +7,12 @@ mod witness;
 pub use witness::Witness;
 
 #[cfg(test)]
+mod object_cuts;
+#[cfg(test)]
+mod objects;
+#[cfg(test)]
+mod opening;
+#[cfg(test)]
 mod structures;
 #[cfg(test)]
 mod tests;

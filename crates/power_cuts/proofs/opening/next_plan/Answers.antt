@@ -5,7 +5,7 @@ use Rattle.shown_state.specs.LaneRules.{KeepsLaneRules}
 use Rattle.pmem_recover.specs.Undo.{KeepsUndoRules}
 use Rattle.pmem_recover.proofs.FirstFault.{entry-lanes}
 use Rattle.power_cuts.proofs.Kept.{keeps_table_slots, keeps_objects, keeps_undo}
-use Rattle.power_cuts.proofs.structures.next_plan.Goals as goal
+use Rattle.power_cuts.proofs.opening.next_plan.Goals as goal
 
 pub next_lane-requires : goal.next_lane-requires
 next_lane-requires g c = subst KeepsLaneRules (c.deref.ensures.value ∙ c.in_ok-words.ensures.words) (entry-lanes c.deref.result.now c.in-Ok.ensures.sound)
