@@ -1,18 +1,18 @@
 -- Once its segment was allocated, and before it is ready, an object may be extended as well.
-use Rattle.std.proofs.Common.{◌≡◌, ◌≢◌, inr, eqb, ℕ, ◌+◌, ◌<◌, ◌≤◌, List, [], ◌∷◌, ◌++◌, get_or, sym, ◌∙◌, ap, subst, arith}
+use Rattle.std.proofs.Common.{◌≡◌, inr, eqb, ℕ, ◌<◌, List, get_or, sym, ◌∙◌, ap, subst, arith}
 use Rattle.std.specs.Prelude.{Contains}
 use Rattle.std.proofs.lemmas.Bool.{or_right}
-use Rattle.pm_model.specs.Fixed.{ready_at, lane_op_at}
+use Rattle.pm_model.specs.Fixed.{ready_at}
 use Rattle.pm_model.specs.Pointer.{pointer_word}
 use Rattle.pm_model.specs.Places.{place_in, is_pointer_to}
 use Rattle.pm_model.specs.Plans.{finished}
-use Rattle.pm_model.specs.Blocks.{Block, live_blocks}
+use Rattle.pm_model.specs.Blocks.{live_blocks}
 use Rattle.pm_model.specs.Objects.{ready_count, segment_pointer_at, segment_of, pointer_after, entries}
 use Rattle.heap_palloc.specs.Index.{HeapIndex, IsIndexOf}
 use Rattle.heap_palloc.specs.Choice.{Choice, choice_parts, choice_block}
 use Rattle.heap_palloc.proofs.RulesKept.{choice_rules}
 use Rattle.heap_palloc.proofs.Stages.{place_in-pointer}
-use Rattle.txn_object.specs.Extension.{Source, owned, allocated, Extension, new_segment, source_parts, segment_block, HasSegments, IsNoSegment, MayExtend}
+use Rattle.txn_object.specs.Extension.{Source, owned, allocated, Extension, source_parts, segment_block, IsNoSegment, MayExtend}
 use Rattle.txn_object.specs.Calls.{next_pointer, MayPlanExtension}
 use Rattle.txn_object.specs.Shown.{IsUnextended}
 use Rattle.txn_object.proofs.Frames.{pointer_same, segment_same}

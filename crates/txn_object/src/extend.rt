@@ -9,9 +9,11 @@ ghost use Rattle.txn_object.specs.Calls.{next_pointer, MayPlanExtension, IsExten
 
 use crate::error::ExtendError;
 use crate::object::push_zeros;
-use crate::segments::{named, pointer_to, ready};
+use crate::segments::{pointer_to, ready};
 use heap_palloc::{Heap, plan_allocate};
-use pm_model::{ENTRY_SEGMENT_WORDS, MAX_ENTRY_SEGMENTS, Memory, Place, Plan, ready_segments};
+use pm_model::{
+    ENTRY_SEGMENT_WORDS, MAX_ENTRY_SEGMENTS, Memory, Place, Plan, named_place, ready_segments,
+};
 use std::alloc::Global;
 
 // No more actions than the allocation of a segment has, which may make a small page first.
@@ -77,7 +79,7 @@ fn push_segment<M: Memory>(
 {
     let owner = pointer_to(mem, object, count);
     if mem.load(owner) != 0 {
-        return Ok(named(mem, owner));
+        return Ok(named_place(mem, owner));
     }
     let (allocation, segment) = plan_allocate(
         alloc,

@@ -8,10 +8,10 @@ ghost use Rattle.pm_model.specs.Plans.{part_actions, plan_of, stores};
 ghost use Rattle.txn_object.specs.Object.{begin_parts, entry_part, clear_part, retire_parts};
 
 use crate::entry::Entry;
-use crate::segments::{MORE_ENTRIES, OWN_ENTRIES, entry_place, named};
+use crate::segments::{MORE_ENTRIES, OWN_ENTRIES, entry_place};
 use pm_model::{
-    Action, Memory, NoMemory, Place, Plan, commit_word, entry_word, object_state, segment_entry,
-    segment_pointer,
+    Action, Memory, NoMemory, Place, Plan, commit_word, entry_word, named_place, object_state,
+    segment_entry, segment_pointer,
 };
 use std::alloc::Global;
 
@@ -116,7 +116,7 @@ fn push_entry_zeros<M: Memory>(plan: &mut Plan, mem: &M, object: u8, entries: u3
     let more = entries - own;
     let mut pointer = segment_pointer(object);
     for segment in 0..more.div_ceil(MORE_ENTRIES) {
-        let first = named(mem, pointer);
+        let first = named_place(mem, pointer);
         let count = (more - MORE_ENTRIES * segment).min(MORE_ENTRIES);
         push_zeros(plan, segment_entry(first, 0), count);
         pointer = first;

@@ -7,8 +7,8 @@ ghost use Rattle.txn_object.specs.Entries.{entry_of};
 ghost use Rattle.txn_object.specs.Object.{entries_in, free_entries_in, NoEntryFollowsZero};
 
 use crate::entry::{Entry, EntryList};
-use crate::segments::{MORE_ENTRIES, OWN_ENTRIES, named, ready};
-use pm_model::{Memory, NoMemory, Place, entry_word, segment_entry, segment_pointer};
+use crate::segments::{MORE_ENTRIES, OWN_ENTRIES, ready};
+use pm_model::{Memory, NoMemory, Place, entry_word, named_place, segment_entry, segment_pointer};
 use std::alloc::Global;
 
 /// The entries of the session's transaction, in order. It takes time as there are entries, and a little for each ready
@@ -26,7 +26,7 @@ pub fn entries<M: Memory>(alloc: Global, mem: &M, session: u8) -> Result<EntryLi
     read_run(mem, entry_word(object, 0), OWN_ENTRIES, &mut list);
     let mut pointer = segment_pointer(object);
     for segment in 0..ready {
-        let first = named(mem, pointer);
+        let first = named_place(mem, pointer);
         read_run(mem, segment_entry(first, 0), MORE_ENTRIES, &mut list);
         pointer = first;
     }
@@ -62,7 +62,7 @@ pub fn free_entries<M: Memory>(mem: &M, session: u8) -> u32
     let mut free = free_in_run(mem, entry_word(object, 0), OWN_ENTRIES);
     let mut pointer = segment_pointer(object);
     for segment in 0..ready {
-        let first = named(mem, pointer);
+        let first = named_place(mem, pointer);
         free += free_in_run(mem, segment_entry(first, 0), MORE_ENTRIES);
         pointer = first;
     }

@@ -7,7 +7,7 @@ ghost use Rattle.pm_model.specs.Places.{is_pointer, place_in};
 ghost use Rattle.txn_object.specs.Object.{nth_place};
 
 use pm_model::{
-    Memory, OBJECT_ENTRIES, PPtr, Place, SEGMENT_ENTRIES, entry_word, ready_segments,
+    Memory, OBJECT_ENTRIES, Place, SEGMENT_ENTRIES, entry_word, named_place, ready_segments,
     segment_entry, segment_pointer,
 };
 
@@ -15,17 +15,6 @@ use pm_model::{
 pub(crate) const OWN_ENTRIES: u32 = OBJECT_ENTRIES as u32;
 
 pub(crate) const MORE_ENTRIES: u32 = SEGMENT_ENTRIES as u32;
-
-/// The place that the pointer at a place names.
-pub(crate) fn named<M: Memory>(mem: &M, at: Place) -> Place
-    requires at { at.0 < length (M.device mem.now).cached }
-    requires pointer { IsTrue (is_pointer (M.device mem.now).cached (slice_index (M.device mem.now).cached at.0)) }
-    ensures place { result.0 ≡ place_in (slice_index (M.device mem.now).cached at.0) }
-    ensures in_image { result.0 < length (M.device mem.now).cached }
-{
-    let pointer = PPtr::try_read(mem.load(at), mem.len()).unwrap();
-    pointer.place().unwrap()
-}
 
 /// How many segments an object has ready.
 pub(crate) fn ready<M: Memory>(mem: &M, object: u8) -> u32
@@ -47,7 +36,7 @@ pub(crate) fn pointer_to<M: Memory>(mem: &M, object: u8, segment: u32) -> Place
 {
     let mut pointer = segment_pointer(object);
     for passed in 0..segment {
-        pointer = named(mem, pointer);
+        pointer = named_place(mem, pointer);
     }
     pointer
 }
@@ -63,6 +52,6 @@ pub(crate) fn entry_place<M: Memory>(mem: &M, object: u8, nth: u32) -> Place
         return entry_word(object, nth as u8);
     }
     let more = nth - OWN_ENTRIES;
-    let segment = named(mem, pointer_to(mem, object, more / MORE_ENTRIES));
+    let segment = named_place(mem, pointer_to(mem, object, more / MORE_ENTRIES));
     segment_entry(segment, (more % MORE_ENTRIES) as u8)
 }

@@ -7,8 +7,8 @@ use Rattle.txn_object.proofs.Rule.{named_after}
 use Rattle.txn_object.proofs.Planning.{owned_planned, allocated_planned, allocated_length, allocated_here}
 use Rattle.txn_object.proofs.extend.push_segment.Goals as goal
 
-pub named-requires-clause-pointer : goal.named-requires-clause-pointer
-named-requires-clause-pointer g c =
+pub named_place-requires-clause-pointer : goal.named_place-requires-clause-pointer
+named_place-requires-clause-pointer g c =
     let words : List ℕ = (g.M.Memory.device c.args.mem.now).cached in
     let owner = c.pointer_to-owner.ensures.place ∙ ap (segment_pointer_at words c.args.object) c.requires.count in
     let is = named_after words c.args.object c.requires.may.segments.rule (λ e. c.if-load-ne0.true (c.load.ensures ∙ ap (λ (at : ℕ). get_or words at 0) owner ∙ e)) in
@@ -19,8 +19,8 @@ returns-then-load-ne0-clause-planned g c =
     let words : List ℕ = (g.M.Memory.device c.args.mem.now).cached in
     let owner = c.pointer_to-owner.ensures.place ∙ ap (segment_pointer_at words c.args.object) c.requires.count in
     let lt : ready_count (g.M.Memory.device c.args.mem.now).cached c.args.object < 32 = omega (arith, c.requires.count, c.requires.not_full) in
-    owned_planned words c.args.heap.now c.args.object c.requires.may c.requires.object lt c.named.result.0 c.args.plan.now.left
-    (c.named.ensures.place ∙ ap (λ (at : ℕ). place_in (get_or words at 0)) owner) (λ e. c.if-load-ne0.true (c.load.ensures ∙ ap (λ (at : ℕ). get_or words at 0) owner ∙ e))
+    owned_planned words c.args.heap.now c.args.object c.requires.may c.requires.object lt c.named_place.result.0 c.args.plan.now.left
+    (c.named_place.ensures.place ∙ ap (λ (at : ℕ). place_in (get_or words at 0)) owner) (λ e. c.if-load-ne0.true (c.load.ensures ∙ ap (λ (at : ℕ). get_or words at 0) owner ∙ e))
 
 pub append-requires : goal.append-requires
 append-requires g c =

@@ -21,8 +21,8 @@ loop-segment-init g c = record {
   spare = omega (arith, c.push_zeros.ensures.spare, c.min-own.ensures);
 }
 
-pub named-first-requires-clause-at : goal.named-first-requires-clause-at
-named-first-requires-clause-at g c =
+pub named_place-first-requires-clause-at : goal.named_place-first-requires-clause-at
+named_place-first-requires-clause-at g c =
     let words : List ℕ = (g.M.Memory.device c.args.mem.now).cached in
     let more = div_ceil_below (c.args.entries - c.min-own.result) c.loop-segment.segment c.div_ceil-segment-end.result c.div_ceil-segment-end.ensures c.loop-segment-test.true in
     let lt = reached c.args.entries c.min-own.result c.loop-segment.segment 0 c.min-own.ensures more in
@@ -31,8 +31,8 @@ named-first-requires-clause-at g c =
     let there = pointer_in words c.args.object (c.requires.rule (omega (arith, lt))) (omega (arith, size)) c.requires.object c.loop-segment.segment (omega (arith, below)) in
     subst (λ (at : ℕ). at < length words) (sym c.loop-segment.invariant.place) there
 
-pub named-first-requires-clause-pointer : goal.named-first-requires-clause-pointer
-named-first-requires-clause-pointer g c =
+pub named_place-first-requires-clause-pointer : goal.named_place-first-requires-clause-pointer
+named_place-first-requires-clause-pointer g c =
     let words : List ℕ = (g.M.Memory.device c.args.mem.now).cached in
     let more = div_ceil_below (c.args.entries - c.min-own.result) c.loop-segment.segment c.div_ceil-segment-end.result c.div_ceil-segment-end.ensures c.loop-segment-test.true in
     let lt = reached c.args.entries c.min-own.result c.loop-segment.segment 0 c.min-own.ensures more in
@@ -47,7 +47,7 @@ push_zeros-requires-in-loop-segment-clause-within g c =
     let lt = reached c.args.entries c.min-own.result c.loop-segment.segment 0 c.min-own.ensures more in
     let below = ready_here words c.args.object c.args.entries c.loop-segment.segment c.requires.there lt in
     let is = within words c.args.object (c.requires.rule (omega (arith, lt))) (g.met.M.Memory.whole c.args.mem.now).segments c.loop-segment.segment 255 below (omega arith) in
-    let here = named_next words c.args.object c.loop-segment.segment c.loop-segment.pointer.0 c.named-first.result.0 c.loop-segment.invariant.place c.named-first.ensures.place in
+    let here = named_next words c.args.object c.loop-segment.segment c.loop-segment.pointer.0 c.named_place-first.result.0 c.loop-segment.invariant.place c.named_place-first.ensures.place in
     omega (arith, is, here, c.segment_entry.ensures, c.min-count.ensures, (g.met.M.Memory.whole c.args.mem.now).most)
 
 pub push_zeros-requires-in-loop-segment-clause-room : goal.push_zeros-requires-in-loop-segment-clause-room
@@ -63,10 +63,10 @@ loop-segment-preserved g c =
     let more = div_ceil_below (c.args.entries - c.min-own.result) c.loop-segment.segment c.div_ceil-segment-end.result c.div_ceil-segment-end.ensures c.loop-segment-test.true in
     let lt = reached c.args.entries c.min-own.result c.loop-segment.segment 0 c.min-own.ensures more in
     let below = ready_here words c.args.object c.args.entries c.loop-segment.segment c.requires.there lt in
-    let here = named_next words c.args.object c.loop-segment.segment c.loop-segment.pointer.0 c.named-first.result.0 c.loop-segment.invariant.place c.named-first.ensures.place in
+    let here = named_next words c.args.object c.loop-segment.segment c.loop-segment.pointer.0 c.named_place-first.result.0 c.loop-segment.invariant.place c.named_place-first.ensures.place in
     record {
-      place = pointer_next words c.args.object c.loop-segment.segment c.loop-segment.pointer.0 c.named-first.result.0 c.loop-segment.invariant.place c.named-first.ensures.place;
-      left = zeros_next words c.args.object c.loop-segment.segment c.named-first.result.0 c.segment_entry.result.0 c.args.entries c.min-count.result c.args.plan.now.left c.loop-segment.plan.left c.push_zeros-in-loop-segment.new.plan.left
+      place = pointer_next words c.args.object c.loop-segment.segment c.loop-segment.pointer.0 c.named_place-first.result.0 c.loop-segment.invariant.place c.named_place-first.ensures.place;
+      left = zeros_next words c.args.object c.loop-segment.segment c.named_place-first.result.0 c.segment_entry.result.0 c.args.entries c.min-count.result c.args.plan.now.left c.loop-segment.plan.left c.push_zeros-in-loop-segment.new.plan.left
           below here (omega (arith, c.segment_entry.ensures)) lt (omega (arith, c.min-count.ensures, c.min-own.ensures, lt)) c.loop-segment.invariant.left c.push_zeros-in-loop-segment.ensures.left;
       spare = omega (arith, lt, c.min-count.ensures, c.min-own.ensures, c.loop-segment.invariant.spare, c.push_zeros-in-loop-segment.ensures.spare);
     }

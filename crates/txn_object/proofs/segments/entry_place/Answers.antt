@@ -17,8 +17,8 @@ pub pointer_to-requires-clause-segment : goal.pointer_to-requires-clause-segment
 pointer_to-requires-clause-segment g c =
     let lt = segment_below (g.M.Memory.device c.args.mem.now).cached c.args.object c.args.nth c.if-nth-lt-OWN_ENTRIES.false c.requires.there in omega (arith, lt)
 
-pub named-segment-requires-clause-pointer : goal.named-segment-requires-clause-pointer
-named-segment-requires-clause-pointer g c =
+pub named_place-segment-requires-clause-pointer : goal.named_place-segment-requires-clause-pointer
+named_place-segment-requires-clause-pointer g c =
     let words : List ℕ = (g.M.Memory.device c.args.mem.now).cached in
     let lt = segment_below words c.args.object c.args.nth c.if-nth-lt-OWN_ENTRIES.false c.requires.there in
     let is = named words c.args.object (c.requires.rule c.if-nth-lt-OWN_ENTRIES.false) ((c.args.nth - 60) / 255) lt in
@@ -29,7 +29,7 @@ returns g c =
     let words : List ℕ = (g.M.Memory.device c.args.mem.now).cached in
     let k = (c.args.nth - 60) / 255 in
     let lt = segment_below words c.args.object c.args.nth c.if-nth-lt-OWN_ENTRIES.false c.requires.there in
-    let here = named_next words c.args.object ((c.args.nth - 60) / 255) c.pointer_to.result.0 c.named-segment.result.0 c.pointer_to.ensures.place c.named-segment.ensures.place in
+    let here = named_next words c.args.object ((c.args.nth - 60) / 255) c.pointer_to.result.0 c.named_place-segment.result.0 c.pointer_to.ensures.place c.named_place-segment.ensures.place in
     let at : 60 + 255 * ((c.args.nth - 60) / 255) + (c.args.nth - 60) % 255 ≡ c.args.nth = omega (arith, c.if-nth-lt-OWN_ENTRIES.false) in
     c.segment_entry.ensures ∙ ap (λ (s : ℕ). segment_entry_at s ((c.args.nth - 60) % 255)) here
     ∙ sym (more_place words c.args.object ((c.args.nth - 60) / 255) ((c.args.nth - 60) % 255) lt (omega arith)) ∙ ap (λ (n : ℕ). get_or (entry_places words c.args.object) n 0) at
