@@ -1,11 +1,11 @@
 -- The plans of the mendings, as the code makes them.
-use Rattle.std.proofs.Common.{◌≡◌, ◌⊎◌, inl, inr, ⊎_elim, ℕ, zero, suc, ◌+◌, ◌-◌, ◌%◌, ◌<◌, ◌≤◌, max, Bool, true, false, ◌&&◌, not, eqb, List, [], ◌∷◌, ◌++◌, length, get_or, take, drop, map, refl, sym, ◌∙◌, ap, subst, append_assoc, arith}
+use Rattle.std.proofs.Common.{◌≡◌, ◌⊎◌, inl, inr, ⊎_elim, ℕ, zero, suc, ◌+◌, ◌-◌, ◌<◌, ◌≤◌, max, Bool, true, false, ◌&&◌, not, eqb, List, [], ◌∷◌, ◌++◌, length, get_or, take, drop, map, refl, sym, ◌∙◌, ap, subst, append_assoc, arith}
 use Rattle.std.specs.List.{flat_map, range_with_len}
 use Rattle.std.proofs.lemmas.Bool.{cases_Bool, cond-true, cond-false, and_from, and_parts, eqb-true, not-true, eq-eqb, ne_eqb, eqb-false}
 use Rattle.std.specs.Prelude.{reverse}
 use Rattle.std.proofs.lemmas.List.{drop_more, drop_all, take_all, append-nil, length-append, length-map}
 use Rattle.pm_model.specs.declared.place.Place.{Place}
-use Rattle.pm_model.specs.Device.{Device, IsWhole}
+use Rattle.pm_model.specs.Device.{Device}
 use Rattle.engine_core.specs.LogicalState.{commit_count}
 use Rattle.engine_core.proofs.Stores.{length-lines_of}
 use Rattle.engine_core.proofs.OpeningCuts.{plan-rests}
