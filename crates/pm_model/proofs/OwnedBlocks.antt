@@ -1,11 +1,10 @@
 -- Where owner words are apart and the entry rules are kept: the blocks of tables, arrays and transaction objects.
-use Rattle.std.proofs.Common.{◌≡◌, ◌≢◌, ◌⊎◌, inl, inr, ⊎_elim, ℕ, zero, suc, ◌+◌, ◌-◌, ◌*◌, ◌^◌, ◌<◌, ◌≤◌, min, Bool, true, ◌&&◌, eqb, ltb, leb, List, [], ◌∷◌, ◌++◌, get_or, map, refl, sym, ◌∙◌, ap, subst, arith}
+use Rattle.std.proofs.Common.{◌≡◌, ◌≢◌, ◌⊎◌, inl, inr, ⊎_elim, ℕ, zero, suc, ◌+◌, ◌-◌, ◌*◌, ◌^◌, ◌<◌, ◌≤◌, min, Bool, true, ◌&&◌, ltb, leb, List, [], ◌∷◌, ◌++◌, get_or, map, refl, sym, ◌∙◌, ap, subst, arith}
 use Rattle.std.specs.Prelude.{All, Contains}
 use Rattle.std.specs.List.{flat_map}
-use Rattle.std.proofs.lemmas.Bool.{cases_Bool, cases_eq, cases_lt, eqb-true, ltb-true, and_parts, leb-true, lt-ltb, cond-true}
+use Rattle.std.proofs.lemmas.Bool.{cases_Bool, cases_eq, cases_lt, ltb-true, and_parts, leb-true, lt-ltb, cond-true}
 use Rattle.std.proofs.lemmas.List.Elements.{All-contains, Contains-append_left, Contains-append_cases}
 use Rattle.pm_model.specs.Fixed.{commit_word_at, first_segment_at, last_at, ready_at, state_at, table_slot_at}
-use Rattle.pm_model.specs.Pointer.{pointer_word}
 use Rattle.pm_model.specs.Places.{below, place_in, is_pointer, is_pointer_to, is_null_or_pointer_to, is_in_segment}
 use Rattle.pm_model.specs.Records.{codes_header, column_at, columns_at, created_header, dictionary_header, ended_header, new_leaf_at, table_words}
 use Rattle.pm_model.specs.Arrays.{array_rule, capacity, chunk_count, chunk_of, chunk_pointer_at, chunk_words, is_chunk_pointer, place_of}
