@@ -8,10 +8,9 @@ ghost use Rattle.pm_model.specs.Checks.{Keeps};
 ghost use Rattle.pm_model.specs.EntryRules.{objects_rule};
 ghost use Rattle.pmem_recover.specs.Filled.{is_filled, places_of};
 
-use crate::lanes::read_pointer;
 use pm_model::{
-    Memory, NoMemory, OBJECT_ENTRIES, Place, SEGMENT_ENTRIES, entry_word, ready_segments,
-    segment_entry, segment_pointer,
+    Memory, NoMemory, OBJECT_ENTRIES, Place, SEGMENT_ENTRIES, entry_word, named_place,
+    ready_segments, segment_entry, segment_pointer,
 };
 use std::alloc::Global;
 
@@ -31,7 +30,7 @@ pub(crate) fn filled_entries<M: Memory>(
     push_own(mem, object, &mut filled)?;
     let mut pointer = segment_pointer(object);
     for _ in 0..mem.load(ready_segments(object)) {
-        let segment = read_pointer(mem, pointer);
+        let segment = named_place(mem, pointer);
         push_segment(mem, segment, &mut filled)?;
         pointer = segment;
     }

@@ -14,8 +14,8 @@ use crate::change::{CHANGE_ACTIONS, Change, push_needed};
 use crate::layout::{ALLOCATING, FIRST_SLOT, IDLE, SMALL_PAGE};
 use heap_small::{Class, class_words, without};
 use pm_model::{
-    LANES, Memory, NoMemory, PAGE_WORDS, PPtr, Page, Place, Plan, descriptor, lane_block,
-    lane_dest, lane_op,
+    LANES, Memory, NoMemory, PAGE_WORDS, Page, Place, Plan, descriptor, lane_block, lane_dest,
+    lane_op, named_place,
 };
 use std::alloc::Global;
 
@@ -48,8 +48,8 @@ fn plan_lane<M: Memory>(alloc: Global, mem: &M, lane: u8) -> Result<Plan, NoMemo
     requires at_work { slice_index (M.device mem.now).cached (lane_op_at lane) ≢ 0 }
     ensures { IfOk result (λ plan. plan.left ≡ plan_of (step_parts lane_mending (M.device mem.now).cached lane)) }
 {
-    let owner = read_pointer(mem, lane_dest(lane));
-    let block = read_pointer(mem, lane_block(lane));
+    let owner = named_place(mem, lane_dest(lane));
+    let block = named_place(mem, lane_block(lane));
     let release = release(mem, block);
     let idle = Change {
         place: lane_op(lane),
@@ -68,17 +68,6 @@ fn plan_lane<M: Memory>(alloc: Global, mem: &M, lane: u8) -> Result<Plan, NoMemo
         push_needed(&mut plan, mem, &[release, idle]);
     }
     Ok(plan)
-}
-
-/// The place that a word points to.
-pub(crate) fn read_pointer<M: Memory>(mem: &M, at: Place) -> Place
-    requires in_image { at.0 < length (M.device mem.now).cached }
-    requires pointer { IsTrue (is_pointer (M.device mem.now).cached (slice_index (M.device mem.now).cached at.0)) }
-    ensures place { result.0 ≡ place_in (slice_index (M.device mem.now).cached at.0) }
-    ensures within { result.0 < length (M.device mem.now).cached }
-{
-    let pointer = PPtr::try_read(mem.load(at), mem.len()).unwrap();
-    pointer.place().unwrap()
 }
 
 /// The change that clears the mark of a block.

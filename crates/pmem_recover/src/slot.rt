@@ -9,12 +9,12 @@ ghost use Rattle.shown_state.specs.Mending.{free_block, slot_mending};
 ghost use Rattle.pmem_recover.specs.Steps.{step_parts, IsNext, NoneFrom};
 
 use crate::change::Change;
-use crate::lanes::{read_pointer, release};
+use crate::lanes::release;
 use crate::layout::{FREEING, IDLE};
 use crate::part::push_parts;
 use pm_model::{
     Memory, NoMemory, PAGE_WORDS, PPtr, Page, Place, Plan, TABLES, descriptor, lane_block,
-    lane_dest, lane_op, table_count, table_slot,
+    lane_dest, lane_op, named_place, table_count, table_slot,
 };
 use std::alloc::Global;
 
@@ -68,7 +68,7 @@ pub(crate) fn plan_freeing<M: Memory>(alloc: Global, mem: &M, at: Place) -> Resu
     requires pointer { IsTrue (is_block_pointer (M.device mem.now).cached (slice_index (M.device mem.now).cached at.0)) }
     ensures { IfOk result (λ plan. plan.left ≡ plan_of (needed_parts (M.device mem.now).cached (free_block (M.device mem.now).cached at.0))) }
 {
-    let block = read_pointer(mem, at);
+    let block = named_place(mem, at);
     let released = release(mem, block);
     let changes = [
         store(lane_dest(LANE), PPtr::of(at).word()),

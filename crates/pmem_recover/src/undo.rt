@@ -14,11 +14,10 @@ ghost use Rattle.pmem_recover.specs.Undo.{KeepsUndoRules, words_at, created_amon
 
 use crate::change::Change;
 use crate::entries::filled_entries;
-use crate::lanes::read_pointer;
 use crate::part::push_parts;
 use pm_model::{
     CLOSED, Memory, NoMemory, OBJECTS, OPEN, Place, Plan, TABLES, commit_word, created_header,
-    ended_header, high, last_commit, object_state, table_count, table_slot,
+    ended_header, high, last_commit, named_place, object_state, table_count, table_slot,
 };
 use seg_array::place_of;
 use std::alloc::Global;
@@ -100,7 +99,7 @@ fn push_stamp<M: Memory>(mem: &M, word: u64, changes: &mut Vec<Change>)
     ensures capacity { vec_capacity changes.new ≡ vec_capacity changes.old }
 {
     let entry = Entry::of_word(word);
-    let table = read_pointer(mem, table_slot(entry.table as u8));
+    let table = named_place(mem, table_slot(entry.table as u8));
     let last = mem.load(last_commit());
     match entry.kind {
         EntryKind::Created => {
@@ -137,7 +136,7 @@ fn push_bounds<M: Memory>(mem: &M, entries: &[Place], changes: &mut Vec<Change>)
     ensures capacity { vec_capacity changes.new ≡ vec_capacity changes.old }
 {
     for table in 0..mem.load(table_count()) {
-        let place = high(read_pointer(mem, table_slot(table as u8)));
+        let place = high(named_place(mem, table_slot(table as u8)));
         let bound = row_bound(mem, entries, table);
         changes.push_reserved(Change {
             place,

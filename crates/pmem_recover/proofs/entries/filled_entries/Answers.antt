@@ -23,23 +23,23 @@ loop-init g c = record {
   few = omega (arith, c.in_ok-push_own.ensures.few, c.new-filled.ensures.len);
 }
 
-pub read_pointer-segment-requires-clause-pointer : goal.read_pointer-segment-requires-clause-pointer
-read_pointer-segment-requires-clause-pointer g c = segment-pointer (g.M.Memory.device c.args.mem.now).cached c.requires.rules c.args.object c.requires.object c.loop.counter c.loop.pointer.0
+pub named_place-segment-requires-clause-pointer : goal.named_place-segment-requires-clause-pointer
+named_place-segment-requires-clause-pointer g c = segment-pointer (g.M.Memory.device c.args.mem.now).cached c.requires.rules c.args.object c.requires.object c.loop.counter c.loop.pointer.0
     (omega (arith, ready_now (g.M.Memory.device c.args.mem.now).cached c.args.object c.load-end.result c.ready_segments.result.0 c.load-end.ensures c.ready_segments.ensures, c.loop-test.true)) c.loop.invariant.pointer
 
 pub push_segment-requires : goal.push_segment-requires
-push_segment-requires g c = segment-within (g.M.Memory.device c.args.mem.now).cached c.requires.rules c.args.object c.requires.object c.loop.counter c.read_pointer-segment.result.0
+push_segment-requires g c = segment-within (g.M.Memory.device c.args.mem.now).cached c.requires.rules c.args.object c.requires.object c.loop.counter c.named_place-segment.result.0
     (g.met.M.Memory.whole c.args.mem.now).segments (omega (arith, ready_now (g.M.Memory.device c.args.mem.now).cached c.args.object c.load-end.result c.ready_segments.result.0 c.load-end.ensures c.ready_segments.ensures, c.loop-test.true))
-    (segment_now (g.M.Memory.device c.args.mem.now).cached c.args.object c.loop.counter c.read_pointer-segment.result.0 c.loop.pointer.0 c.read_pointer-segment.ensures.place c.loop.invariant.pointer)
+    (segment_now (g.M.Memory.device c.args.mem.now).cached c.args.object c.loop.counter c.named_place-segment.result.0 c.loop.pointer.0 c.named_place-segment.ensures.place c.loop.invariant.pointer)
 
 pub loop-preserved : goal.loop-preserved
 loop-preserved g c =
     let words = (g.M.Memory.device c.args.mem.now).cached in
-    let segment = segment_now (g.M.Memory.device c.args.mem.now).cached c.args.object c.loop.counter c.read_pointer-segment.result.0 c.loop.pointer.0 c.read_pointer-segment.ensures.place c.loop.invariant.pointer in
+    let segment = segment_now (g.M.Memory.device c.args.mem.now).cached c.args.object c.loop.counter c.named_place-segment.result.0 c.loop.pointer.0 c.named_place-segment.ensures.place c.loop.invariant.pointer in
     record {
       pointer = segment ∙ ap (segment_pointer_at words c.args.object) (sym (add-one c.loop.counter));
-      within = c.read_pointer-segment.ensures.within;
-      places = segments-next (is_filled words) words c.args.object c.loop.counter c.read_pointer-segment.result.0 (places_of c.loop.filled.items) (places_of c.push_segment.new.filled.items)
+      within = c.named_place-segment.ensures.in_image;
+      places = segments-next (is_filled words) words c.args.object c.loop.counter c.named_place-segment.result.0 (places_of c.loop.filled.items) (places_of c.push_segment.new.filled.items)
           segment c.loop.invariant.places c.in_ok-push_segment.ensures.places;
       few = omega (arith, c.in_ok-push_segment.ensures.few, c.loop.invariant.few);
     }

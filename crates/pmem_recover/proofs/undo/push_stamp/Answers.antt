@@ -23,8 +23,8 @@ table_slot-requires g c =
     let few = tables-few words c.requires.rules in
     omega (arith, lt, few, table)
 
-pub read_pointer-table-requires-clause-in_image : goal.read_pointer-table-requires-clause-in_image
-read_pointer-table-requires-clause-in_image g c =
+pub named_place-table-requires-clause-at : goal.named_place-table-requires-clause-at
+named_place-table-requires-clause-at g c =
     let words : List ℕ = (g.M.Memory.device c.args.mem.now).cached in
     let table : c.of_word-entry.result.table ≡ entry_table c.args.word = ap (λ (entry : Entry). entry.table) c.of_word-entry.ensures in
     let slot = c.table_slot.ensures ∙ ap (λ (entry : Entry). table_slot_at entry.table) c.of_word-entry.ensures in
@@ -32,8 +32,8 @@ read_pointer-table-requires-clause-in_image g c =
     let few = tables-few words c.requires.rules in
     omega (arith, lt, few, slot, (g.met.M.Memory.whole c.args.mem.now).one_or_more)
 
-pub read_pointer-table-requires-clause-pointer : goal.read_pointer-table-requires-clause-pointer
-read_pointer-table-requires-clause-pointer g c =
+pub named_place-table-requires-clause-pointer : goal.named_place-table-requires-clause-pointer
+named_place-table-requires-clause-pointer g c =
     let words : List ℕ = (g.M.Memory.device c.args.mem.now).cached in
     let slot = c.table_slot.ensures ∙ ap (λ (entry : Entry). table_slot_at entry.table) c.of_word-entry.ensures in
     table-pointer words c.requires.rules (entry_table c.args.word) c.table_slot.result.0 (entry-parts words c.args.word c.requires.entry).table slot
@@ -42,31 +42,31 @@ pub place_of-place-requires-clause-header : goal.place_of-place-requires-clause-
 place_of-place-requires-clause-header g c =
     let words : List ℕ = (g.M.Memory.device c.args.mem.now).cached in
     let slot = c.table_slot.ensures ∙ ap (λ (entry : Entry). table_slot_at entry.table) c.of_word-entry.ensures in
-    let block = named-block words (entry_table c.args.word) c.read_pointer-table.result.0 c.table_slot.result.0 c.read_pointer-table.ensures.place slot in
-    let within = table-within words c.requires.rules (entry_table c.args.word) c.read_pointer-table.result.0 (g.met.M.Memory.whole c.args.mem.now).segments (entry-parts words c.args.word c.requires.entry).table block in
+    let block = named-block words (entry_table c.args.word) c.named_place-table.result.0 c.table_slot.result.0 c.named_place-table.ensures.place slot in
+    let within = table-within words c.requires.rules (entry_table c.args.word) c.named_place-table.result.0 (g.met.M.Memory.whole c.args.mem.now).segments (entry-parts words c.args.word c.requires.entry).table block in
     omega (arith, within, c.created_header.ensures)
 
 pub place_of-place-requires-clause-rule : goal.place_of-place-requires-clause-rule
 place_of-place-requires-clause-rule g c =
     let words : List ℕ = (g.M.Memory.device c.args.mem.now).cached in
     let slot = c.table_slot.ensures ∙ ap (λ (entry : Entry). table_slot_at entry.table) c.of_word-entry.ensures in
-    let block = named-block words (entry_table c.args.word) c.read_pointer-table.result.0 c.table_slot.result.0 c.read_pointer-table.ensures.place slot in
-    keeps-created words c.requires.rules (entry_table c.args.word) c.read_pointer-table.result.0 c.created_header.result.0 (entry-parts words c.args.word c.requires.entry).table block c.created_header.ensures
+    let block = named-block words (entry_table c.args.word) c.named_place-table.result.0 c.table_slot.result.0 c.named_place-table.ensures.place slot in
+    keeps-created words c.requires.rules (entry_table c.args.word) c.named_place-table.result.0 c.created_header.result.0 (entry-parts words c.args.word c.requires.entry).table block c.created_header.ensures
 
 pub place_of-place-requires-in-Ended-clause-header : goal.place_of-place-requires-in-Ended-clause-header
 place_of-place-requires-in-Ended-clause-header g c =
     let words : List ℕ = (g.M.Memory.device c.args.mem.now).cached in
     let slot = c.table_slot.ensures ∙ ap (λ (entry : Entry). table_slot_at entry.table) c.of_word-entry.ensures in
-    let block = named-block words (entry_table c.args.word) c.read_pointer-table.result.0 c.table_slot.result.0 c.read_pointer-table.ensures.place slot in
-    let within = table-within words c.requires.rules (entry_table c.args.word) c.read_pointer-table.result.0 (g.met.M.Memory.whole c.args.mem.now).segments (entry-parts words c.args.word c.requires.entry).table block in
+    let block = named-block words (entry_table c.args.word) c.named_place-table.result.0 c.table_slot.result.0 c.named_place-table.ensures.place slot in
+    let within = table-within words c.requires.rules (entry_table c.args.word) c.named_place-table.result.0 (g.met.M.Memory.whole c.args.mem.now).segments (entry-parts words c.args.word c.requires.entry).table block in
     omega (arith, within, c.ended_header.ensures)
 
 pub place_of-place-requires-in-Ended-clause-rule : goal.place_of-place-requires-in-Ended-clause-rule
 place_of-place-requires-in-Ended-clause-rule g c =
     let words : List ℕ = (g.M.Memory.device c.args.mem.now).cached in
     let slot = c.table_slot.ensures ∙ ap (λ (entry : Entry). table_slot_at entry.table) c.of_word-entry.ensures in
-    let block = named-block words (entry_table c.args.word) c.read_pointer-table.result.0 c.table_slot.result.0 c.read_pointer-table.ensures.place slot in
-    keeps-ended words c.requires.rules (entry_table c.args.word) c.read_pointer-table.result.0 c.ended_header.result.0 (entry-parts words c.args.word c.requires.entry).table block c.ended_header.ensures
+    let block = named-block words (entry_table c.args.word) c.named_place-table.result.0 c.table_slot.result.0 c.named_place-table.ensures.place slot in
+    keeps-ended words c.requires.rules (entry_table c.args.word) c.named_place-table.result.0 c.ended_header.result.0 (entry-parts words c.args.word c.requires.entry).table block c.ended_header.ensures
 
 pub returns-then-stamp-eq0-clause-within : goal.returns-then-stamp-eq0-clause-within
 returns-then-stamp-eq0-clause-within g c all = within-push (length (g.M.Memory.device c.args.mem.now).cached) c.args.changes.now.items c.push_reserved.new.self.items _ c.push_reserved.ensures.items c.place_of-place.ensures.in_image all
