@@ -1,7 +1,5 @@
 -- The first pages of the best fit are taken.
-use Rattle.std.proofs.Common.{◌≡◌, ℕ, ◌+◌, ◌%◌, ◌<◌, ◌≤◌, ◌++◌, ◌∷◌, [], List, length, take, drop, get_or, zero, suc, Some, inl, ⊎_elim, sym, ap, subst, ◌∙◌, append_assoc, add-one, drop-cons, take-append-drop, arith}
-use Rattle.std.specs.Prelude.{IfSome, slice_get}
-use Rattle.std.proofs.Math.ListN.{get_or-map}
+use Rattle.std.proofs.Common.{◌≡◌, ◌↔◌, refl, ℕ, ◌+◌, ◌%◌, ◌<◌, ◌≤◌, ◌++◌, ◌∷◌, [], List, length, take, drop, get_or, zero, suc, Some, inl, ⊎_elim, sym, ap, subst, ◌∙◌, append_assoc, add-one, drop-cons, take-append-drop, arith}
 use Rattle.std.proofs.lemmas.List.{length-map, get_or-map as map-at}
 use Rattle.std.proofs.lemmas.Option.{slice_get-get_or}
 use Rattle.std.proofs.lemmas.Bool.{cases_eq}
@@ -12,7 +10,8 @@ use Rattle.heap_big.proofs.Indexing.{strictly}
 use Rattle.heap_big.specs.Runs.{end_of, HasPage, IsFree, IsInSegment, next_place, AreRuns, Removes}
 use Rattle.heap_big.specs.Fit.{lengths, rest_of, IsBestFit, TakesBestFit}
 use Rattle.heap_big.proofs.Chains.{low_le_high, free_behind}
-use Rattle.heap_big.proofs.Takes.{take_first}
+use Rattle.heap_big.proofs.Takes.{IsTaken, take_first}
+use Rattle.heap_big.proofs.Settled.{settled}
 
 pub end_le : (low high : ℕ) (runs : List Run) (k : ℕ) (other : Run) → AreRuns low runs high → k < length runs → end_of (get_or runs k other) ≤ high
 end_le low high [] k other order within = absurd (omega arith)
@@ -51,7 +50,7 @@ best_fit_at high starts runs pages best at order indexes shortest within is =
     }
 
 -- the runs at both sides of one
-parts_at : (runs : List Run) (at : ℕ) (other : Run) → at < length runs → take at runs ++ get_or runs at other ∷ drop (at + 1) runs ≡ runs
+pub parts_at : (runs : List Run) (at : ℕ) (other : Run) → at < length runs → take at runs ++ get_or runs at other ∷ drop (at + 1) runs ≡ runs
 parts_at runs at other within = rw add-one (ap (λ l. take at runs ++ l) (sym (drop-cons runs at other within)) ∙ take-append-drop at runs)
 
 pub record TakesBest (high : ℕ) (old : List Run) (pages : ℕ) (taken : Run) (new : List Run) : Type 0 where
@@ -62,40 +61,37 @@ pub record TakesBest (high : ℕ) (old : List Run) (pages : ℕ) (taken : Run) (
   pub in_segment : taken.first % 64 + taken.pages ≤ 64
   pub within : end_of taken ≤ high
 
-pub takes_best : (high at : ℕ) (runs seen free : List Run) (pages : ℕ) → seen ≡ runs → runs ≡ free → AreRuns 0 runs high → IsBestFit pages (lengths seen) at
-    → (taken : Run) (new : List Run) → IfSome (slice_get runs at) (λ chosen. taken ≡ record { first = chosen.first; pages = pages })
-    → IfSome (slice_get runs at) (λ chosen. new ≡ take at runs ++ rest_of chosen pages ++ drop (at + 1) runs)
-    → TakesBest high free pages taken new
-takes_best high at runs seen free pages same was order best' taken new taken_is new_is =
-    let none : Run = record { first = 0; pages = 0 } in
-    let best : IsBestFit pages (lengths runs) at = subst (λ l. IsBestFit pages (lengths l) at) same best' in
-    let within : at < length runs = omega (arith, best.within, length-map runs (λ (r : Run). r.pages)) in
-    let chosen : Run = get_or runs at none in
-    let found : slice_get runs at ≡ Some chosen = slice_get-get_or runs at none within in
-    let taken_is' : taken ≡ record { first = chosen.first; pages = pages } =
-    subst (λ o. IfSome o (λ (r : Run). taken ≡ record { first = r.first; pages = pages })) found taken_is in
-    let new_is' : new ≡ take at runs ++ rest_of chosen pages ++ drop (at + 1) runs =
-    subst (λ o. IfSome o (λ (r : Run). new ≡ take at runs ++ rest_of r pages ++ drop (at + 1) runs)) found new_is in
-    let fits : pages ≤ chosen.pages = omega (arith, best.fits, get_or-map (λ (r : Run). r.pages) runs at none) in
-    let segment : IsInSegment chosen = segment_at 0 high runs at none order within in
-    let parts = parts_at runs at none within in
+-- the free pages without those that are taken settle what is left of the runs
+pub takes_best : (high : ℕ) (starts : List (List ℕ)) (runs new : List Run) (pages : ℕ) (best : Run) → AreRuns 0 runs high → AreRuns 0 new high → Indexes starts runs → IsShortest starts pages best
+    → ((page : ℕ) → IsFree new page ↔ (IsFree runs page × (HasPage (record { first = best.first; pages = pages }) page → ⊥)))
+    → TakesBest high runs pages (record { first = best.first; pages = pages }) new
+takes_best high starts runs new pages best order order' indexes shortest left =
+    let there = (indexes best).0 shortest.is_one in
+    let at : ℕ = there.0 in
+    let within : at < length runs = there.1 in
+    let is : get_or runs at best ≡ best = there.2 in
+    let taken : Run = record { first = best.first; pages = pages } in
     let front = take at runs in
     let behind = drop (at + 1) runs in
-    let done = take_first high front behind chosen pages fits (subst (λ l. AreRuns 0 l high) (sym parts) order) in
-    let new_is'' : new ≡ front ++ (rest_of chosen pages ++ behind) = new_is' ∙ append_assoc front (rest_of chosen pages) behind in
-    let removed : Removes runs taken new =
-    subst (λ l. Removes l taken new) parts
-    (subst (λ r. Removes (front ++ chosen ∷ behind) r new) (sym taken_is')
-    (subst (λ l. Removes (front ++ chosen ∷ behind) (record { first = chosen.first; pages = pages }) l) (sym new_is'') done.pages)) in
-    let takes : TakesBestFit runs pages taken new = record { at = at; chosen = chosen; best = best; chosen_is = found; taken_is = taken_is'; new_is = new_is' } in
+    let parts : front ++ best ∷ behind ≡ runs = ap (λ (r : Run). front ++ r ∷ behind) (sym is) ∙ parts_at runs at best within in
+    let segment : IsInSegment best = subst (λ (r : Run). IsInSegment r) is (segment_at 0 high runs at best order within) in
+    let done : IsTaken high (front ++ best ∷ behind) taken (front ++ (rest_of best pages ++ behind)) =
+    take_first high front behind best pages shortest.fits (subst (λ l. AreRuns 0 l high) (sym parts) order) in
+    let removed : Removes runs taken (front ++ (rest_of best pages ++ behind)) = subst (λ l. Removes l taken (front ++ (rest_of best pages ++ behind))) parts done.pages in
+    let same : new ≡ front ++ (rest_of best pages ++ behind) =
+    settled 0 0 high new (front ++ (rest_of best pages ++ behind)) order' done.order (λ page free. (removed page).1 ((left page).0 free)) (λ page free. (left page).1 ((removed page).0 free)) in
     record {
-      order = subst (λ l. AreRuns 0 l high) (sym new_is'') done.order;
-      removed = subst (λ l. Removes l taken new) was removed;
-      best = subst (λ l. TakesBestFit l pages taken new) was takes;
-      were_free = λ page has.
-          let there : (chosen.first ≤ page) × (page < chosen.first + pages) = subst (λ (r : Run). HasPage r page) taken_is' has in
-          let in_parts : IsFree (front ++ chosen ∷ behind) page = free_behind front (chosen ∷ behind) page (inl (there.0, omega (arith, there.1, fits))) in
-          subst (λ l. IsFree l page) was (subst (λ l. IsFree l page) parts in_parts);
-      in_segment = subst (λ (r : Run). r.first % 64 + r.pages ≤ 64) (sym taken_is') (omega (arith, segment.within, fits));
-      within = subst (λ (r : Run). end_of r ≤ high) (sym taken_is') (omega (arith, end_le 0 high runs at none order within, fits));
+      order = order';
+      removed = left;
+      best = record {
+        at = at;
+        chosen = best;
+        best = best_fit_at high starts runs pages best at order indexes shortest within is;
+        chosen_is = slice_get-get_or runs at best within ∙ ap (λ (r : Run). Some r) is;
+        taken_is = refl;
+        new_is = same ∙ sym (append_assoc front (rest_of best pages) behind);
+      };
+      were_free = λ page has. subst (λ l. IsFree l page) parts (free_behind front (best ∷ behind) page (inl (has.0, omega (arith, has.1, shortest.fits))));
+      in_segment = omega (arith, segment.within, shortest.fits);
+      within = let end = subst (λ (r : Run). end_of r ≤ high) is (end_le 0 high runs at best order within) in omega (arith, end, shortest.fits);
     }

@@ -147,7 +147,7 @@ free_in_run before after run taken page has =
       unused = taken.unused page has;
     }
 
-has_or_not : (run : Run) (page : ℕ) → HasPage run page ⊎ (HasPage run page → ⊥)
+pub has_or_not : (run : Run) (page : ℕ) → HasPage run page ⊎ (HasPage run page → ⊥)
 has_or_not run page =
     elim (below_or_from page run.first) [
       | inl below ↦ inr (λ has. omega (arith, below, has.0))

@@ -1,13 +1,12 @@
 -- The first pages of the runs of each length.
-use Rattle.std.proofs.Common.{◌≡◌, ◌≢◌, ◌⊎◌, inl, inr, ⊎_elim, ℕ, zero, suc, ◌+◌, ◌-◌, ◌*◌, ◌/◌, ◌%◌, ◌^◌, ◌<◌, ◌≤◌, ◌↔◌, List, [], ◌∷◌, ◌++◌, length, set, get_or, refl, sym, ◌∙◌, ap, ap₂, subst, arith, w64}
+use Rattle.std.proofs.Common.{◌≡◌, ◌≢◌, ◌⊎◌, inl, inr, ⊎_elim, ℕ, zero, suc, ◌+◌, ◌-◌, ◌/◌, ◌%◌, ◌^◌, ◌<◌, ◌≤◌, ◌↔◌, List, [], ◌∷◌, ◌++◌, length, set, get_or, refl, sym, ◌∙◌, ap, ap₂, subst, arith, w64}
 use Rattle.std.specs.Prelude.{Contains}
 use Rattle.std.specs.Int.{bit_at, trailing_zeros}
-use Rattle.std.specs.Int.Count.{count_leading_zeros}
 use Rattle.std.proofs.lemmas.Bool.{cases_eq, cases_lt}
 use Rattle.std.proofs.lemmas.List.{get_or-set_same, get_or-set_other, get_or_past}
 use Rattle.std.proofs.lemmas.List.Elements.{Contains-append_cases, Contains-append_left, Contains-append_right}
-use Rattle.std.proofs.lemmas.Nat.{leading_top, pow-add, pow_pos}
-use Rattle.std.proofs.Math.Nat.{div-le_self, div-div-eq-div-mul, div-lt_iff_lt-mul, le-div_iff_mul-le, pow-suc}
+use Rattle.std.proofs.lemmas.Nat.{pow-add}
+use Rattle.std.proofs.Math.Nat.{div-le_self, div-div-eq-div-mul}
 use Rattle.std.proofs.lemmas.Nat.Bits.{bit_at-trailing_zeros, bit_at-zero, bit_at_above}
 use Rattle.heap_big.specs.declared.run.Run.{Run}
 use Rattle.heap_big.specs.Pages.{GainsOne}
@@ -178,15 +177,3 @@ module _ (starts : List (List ℕ)) (used : ℕ) (size : length starts ≡ 64) (
             (cases_lt (other.pages - 1) at);
         lowest = λ other has same. lowest other.first (let here : other.pages - 1 ≡ at = omega (arith, same) in subst (λ (n : ℕ). Contains (get_or starts n []) other.first) here has.begins);
       }
-
-  -- the highest bit is that of the longest run
-  pub longest_bit : (0 < used) → (high : ℕ) × (count_leading_zeros 64 used + suc high ≡ 64) × (bit_at used high ≡ 1) × ((i : ℕ) → high < i → bit_at used i ≡ 0)
-  longest_bit some =
-      let top = leading_top 64 used some fits in
-      let high = top.0 in
-      let pos : 0 < 2 ^ high = pow_pos high in
-      let one : 1 ≤ used / 2 ^ high = (le-div_iff_mul-le pos).1 (omega (arith, top.2)) in
-      let twice : 2 ^ suc high ≡ 2 ^ high * 2 = pow-suc 2 high in
-      let under : used < 2 ^ suc high = top.3 in
-      let two : used / 2 ^ high < 2 = (div-lt_iff_lt-mul pos).1 (omega (arith, twice, under)) in
-      (high, top.1, (omega (arith, one, two)), λ i above. bit_at_above used (suc high) i top.3 (omega (arith, above)))

@@ -1,10 +1,9 @@
-ghost use Rattle.std.specs.Prelude.{◌≡◌, ◌+◌, ◌%◌, ◌<◌, ◌≤◌, ◌↔◌, All, IsNone, IfOk, IfSome, IfNone, length, ℕ};
+ghost use Rattle.std.specs.Prelude.{◌≡◌, ◌+◌, ◌*◌, ◌/◌, ◌%◌, ◌<◌, ◌≤◌, ◌↔◌, All, IsNone, IfOk, IfSome, IfNone, length, ℕ, slice_index, vec_len};
 ghost use Rattle.heap_big.specs.Runs.{end_of, HasPage, IsFree, IsInSegment, longest, IsGreatest, IsWellFormed, Adds, Removes};
 ghost use Rattle.heap_big.specs.Fit.{TakesBestFit};
 ghost use Rattle.heap_big.specs.Descriptors.{inside_next, IsFreePage};
 
-use crate::front::take_front;
-use crate::join::{join_left, join_right, place_for};
+use crate::segment::{bits_of, neighbours};
 use crate::starts::Starts;
 use crate::{NoMemory, Run};
 use std::alloc::Global;
@@ -26,9 +25,9 @@ fn left_behind(page: u16, descriptor: u64, inside: u64) -> u64
 /// The index of the free runs of a heap.
 #[derive(Debug, Drop)]
 pub struct Runs {
-    runs: Vec<Run>,
+    // For each segment the bits of its free pages.
+    free: Vec<u64>,
     starts: Starts,
-    page_count: u32,
 }
 
 impl Model for Runs {
@@ -46,7 +45,7 @@ impl Model for Runs {
 impl Runs {
     /// The index of a heap whose pages have these descriptors, 64 for each segment.
     ///
-    /// It takes the room for as many runs as there are pages. No other call takes memory.
+    /// No other call takes memory.
     pub fn from_descriptors(alloc: Global, descriptors: &[u64]) -> Result<Runs, NoMemory>
         requires whole { length descriptors.now % 64 ≡ 0 }
         requires small { length descriptors.now ≤ 8192 }
@@ -56,9 +55,8 @@ impl Runs {
         ensures well_formed { IfOk result IsWellFormed }
     {
         let mut index = Runs {
-            runs: Vec::with_capacity(alloc, descriptors.len())?,
+            free: vec![in alloc; 0; descriptors.len() / 64]?,
             starts: Starts::new(alloc)?,
-            page_count: descriptors.len() as u32,
         };
         let mut inside = 0;
         for (page, descriptor) in descriptors.iter().enumerate() {
@@ -106,8 +104,17 @@ impl Runs {
         ensures well_formed { IsWellFormed self.new }
     {
         let best = self.starts.shortest(pages)?;
-        let at = place_for(&self.runs, best.first) - 1;
-        Some(take_front(&mut self.runs, &mut self.starts, at, pages))
+        self.starts.remove(best);
+        self.starts.add(Run {
+            first: best.first + pages as u16,
+            pages: best.pages - pages,
+        });
+        let taken = Run {
+            first: best.first,
+            pages,
+        };
+        self.free[usize::from(taken.first / 64)] &= !bits_of(taken);
+        Some(taken)
     }
 
     /// Makes the pages of the run free. It joins its neighbours of the same segment.
@@ -119,9 +126,16 @@ impl Runs {
         ensures page_count { self.new.page_count ≡ self.old.page_count }
         ensures well_formed { IsWellFormed self.new }
     {
-        let at = place_for(&self.runs, run.first);
-        let run = join_right(&mut self.runs, &mut self.starts, at, run);
-        join_left(&mut self.runs, &mut self.starts, at, run);
+        let at = usize::from(run.first / 64);
+        let free = self.free[at];
+        let (left, right) = neighbours(free, run);
+        self.starts.remove(left);
+        self.starts.remove(right);
+        self.starts.add(Run {
+            first: left.first,
+            pages: left.pages + run.pages + right.pages,
+        });
+        self.free[at] = free | bits_of(run);
     }
 
     /// The pages of the longest run, 0 where no page is free.
@@ -131,13 +145,5 @@ impl Runs {
         ensures well_formed { IsWellFormed self.now }
     {
         self.starts.longest()
-    }
-
-    /// The runs in ascending place.
-    pub fn as_slice(&self) -> &[Run]
-        ensures runs { result.now ≡ self.now.runs }
-        ensures well_formed { IsWellFormed self.now }
-    {
-        self.runs.as_slice()
     }
 }

@@ -43,8 +43,20 @@ impl Starts {
         Ok(Starts { sets, used: 0 })
     }
 
-    /// Adds a run.
+    /// Adds a run; one of no pages adds nothing.
     pub(crate) fn add(&mut self, run: Run)
+        requires short { run.pages ≤ 64 }
+        requires within { 0 < run.pages → run.first < 8192 }
+        requires new { HasRun self.old run → ⊥ }
+        ensures { (other : Run) → HasRun self.new other ↔ (HasRun self.old other ⊎ ((0 < run.pages) × (other ≡ run))) }
+    {
+        if run.pages > 0 {
+            self.add_some(run);
+        }
+    }
+
+    // Adds a run that has a page.
+    fn add_some(&mut self, run: Run)
         requires some { 0 < run.pages }
         requires short { run.pages ≤ 64 }
         requires within { run.first < 8192 }
@@ -57,8 +69,18 @@ impl Starts {
         self.used |= 1 << at;
     }
 
-    /// Takes a run out.
+    /// Takes a run out; one of no pages takes nothing.
     pub(crate) fn remove(&mut self, run: Run)
+        requires { 0 < run.pages → HasRun self.old run }
+        ensures { (other : Run) → HasRun self.new other ↔ (HasRun self.old other × (other ≢ run)) }
+    {
+        if run.pages > 0 {
+            self.remove_some(run);
+        }
+    }
+
+    // Takes a run out that has a page.
+    fn remove_some(&mut self, run: Run)
         requires { HasRun self.old run }
         ensures { (other : Run) → HasRun self.new other ↔ (HasRun self.old other × (other ≢ run)) }
     {

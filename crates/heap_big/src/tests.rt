@@ -42,25 +42,26 @@ fn free_pages_are_read(rt: HostRuntime) -> Result<(), Fail> {
         (64, 8),
         (127, 17),
     ];
-    for (pages, described, runs, largest) in [
-        (64, &formatted[..], &[run(4, 60)][..], 60),
-        (64, &full[..], &[][..], 0),
-        (
-            128,
-            &mixed[..],
-            &[run(4, 6), run(13, 47), run(65, 62)][..],
-            62,
-        ),
+    // The runs, the longest first.
+    for (pages, described, runs) in [
+        (64, &formatted[..], &[run(4, 60)][..]),
+        (64, &full[..], &[][..]),
+        (128, &mixed[..], &[run(65, 62), run(13, 47), run(4, 6)][..]),
     ] {
-        let index = index(&rt, rt.alloc(), pages, described)?;
-        assert_eq!(rt; index.as_slice(), runs);
-        assert_eq!(rt; index.largest(), largest);
+        let mut index = index(&rt, rt.alloc(), pages, described)?;
+        for run in runs {
+            assert_eq!(rt; index.largest(), run.pages);
+            assert_eq!(rt; index.take(run.pages), Some(*run));
+        }
+        assert_eq!(rt; index.largest(), 0);
+        assert_eq!(rt; index.take(1), None);
     }
     Ok(())
 }
 
 #[test]
 fn the_best_fit_is_taken(rt: HostRuntime) -> Result<(), Fail> {
+    // Pages 4 to 6, 8 and 9, 11 and 12, 14 and 15 are free.
     let described = [
         (0, 8),
         (1, 8),
@@ -72,8 +73,6 @@ fn the_best_fit_is_taken(rt: HostRuntime) -> Result<(), Fail> {
         (16, 64),
     ];
     let mut index = index(&rt, rt.alloc(), 64, &described)?;
-    let runs = [run(4, 3), run(8, 2), run(11, 2), run(14, 2)];
-    assert_eq!(rt; index.as_slice(), runs.as_slice());
     for (pages, taken, largest) in [
         (4, None, 3),
         (2, Some(run(8, 2)), 3),
@@ -94,12 +93,15 @@ fn the_best_fit_is_taken(rt: HostRuntime) -> Result<(), Fail> {
 #[test]
 fn neighbours_are_joined(rt: HostRuntime) -> Result<(), Fail> {
     let mut index = index(&rt, rt.alloc(), 128, &[(0, 8), (1, 8), (2, 8), (3, 8)])?;
-    let first = index.take(58).expect(&rt, "58 pages");
-    let second = index.take(2).expect(&rt, "2 pages");
-    assert_eq!(rt; index.as_slice(), [run(64, 64)].as_slice());
-    index.put_back(first);
-    assert_eq!(rt; index.as_slice(), [run(4, 58), run(64, 64)].as_slice());
-    index.put_back(second);
-    assert_eq!(rt; index.as_slice(), [run(4, 60), run(64, 64)].as_slice());
+    let second_segment = index.take(64).expect(&rt, "64 pages");
+    let first = index.take(20).expect(&rt, "20 pages");
+    let second = index.take(30).expect(&rt, "30 pages");
+    let third = index.take(10).expect(&rt, "10 pages");
+    assert_eq!(rt; index.largest(), 0);
+    for (back, largest) in [(first, 20), (third, 20), (second, 60), (second_segment, 64)] {
+        index.put_back(back);
+        assert_eq!(rt; index.largest(), largest);
+    }
+    assert_eq!(rt; index.take(61), Some(run(64, 61)));
     Ok(())
 }

@@ -1,23 +1,50 @@
-use Rattle.std.proofs.Common.{◌≡◌, ℕ, List, [], length, sym, subst, refl, arith}
+use Rattle.std.proofs.Common.{◌≡◌, ℕ, ◌*◌, ◌/◌, ◌%◌, true, zero, suc, List, length, get_or, replicate, ap, ◌∙◌, refl, arith}
 use Rattle.std.specs.Prelude.{Contains}
 use Rattle.heap_big.specs.declared.run.Run.{Run}
-use Rattle.heap_big.specs.Runs.{AreRuns}
-use Rattle.heap_big.specs.Starts.{HasRun, Indexes}
+use Rattle.std.specs.Int.{bit_at}
+use Rattle.std.proofs.lemmas.Nat.Bits.{bit_at-zero}
+use Rattle.heap_big.specs.Pages.{has_page, pages_of}
+use Rattle.heap_big.specs.Index.{runs_of}
+use Rattle.heap_big.proofs.Bits.{bit_read}
+use Rattle.heap_big.proofs.Grouping.{runs_order, free_same, well_formed}
+use Rattle.heap_big.proofs.Maximal.{contains_maximal}
 use Rattle.heap_big.proofs.Scans.{scanned_next}
 use Rattle.heap_big.proofs.runs.Runs.from_descriptors.Goals as goal
 
--- an empty index of no runs
-none_yet : (starts : List (List ℕ)) (runs : List Run) → runs ≡ [] → ((run : Run) → HasRun starts run → ⊥) → Indexes starts runs
-none_yet starts runs none empty run = (λ has. absurd (empty run has), λ has. absurd (let there = subst (λ (l : List Run). Contains l run) none has in omega (arith, there.1)))
+-- no page is free yet
+none_free : (words : List ℕ) (count : ℕ) → words ≡ replicate count 0 → (page : ℕ) → has_page words page ≡ true → ⊥
+none_free words count is page hit =
+    let zero = get_or-replicate count (page / 64) in
+    let one = (bit_read words page (page / 64) refl).0 hit in
+    let none = ap (λ (l : List ℕ). bit_at (get_or l (page / 64) 0) (page % 64)) is ∙ ap (λ (w : ℕ). bit_at w (page % 64)) zero ∙ bit_at-zero (page % 64) in
+    omega (arith, one, none)
+  where
+    get_or-replicate : (n k : ℕ) → let none : ℕ = 0 in get_or (replicate n none) k 0 ≡ none
+    get_or-replicate zero k = refl
+    get_or-replicate (suc n) zero = refl
+    get_or-replicate (suc n) (suc k) = get_or-replicate n k
+
+no_run : (words : List ℕ) (count : ℕ) → words ≡ replicate count 0 → (run : Run) → Contains (runs_of (pages_of words)) run → ⊥
+no_run words count is run has =
+    let maximal = contains_maximal (64 * length words) (runs_of (pages_of words)) run (runs_order words) has in
+    none_free words count is run.first ((free_same words run.first).1 (maximal.inside run.first (omega arith, omega (arith, maximal.in_segment.some))))
 
 pub invariant_of-index : goal.invariant_of-index
 invariant_of-index c = record {
-  whole = c.requires.whole;
-  small = c.requires.small;
-  runs = subst (λ (l : List Run). AreRuns 0 l (length c.args.descriptors.now)) (sym c.in_ok-with_capacity.ensures.items) (omega arith);
-  starts = none_yet c.in_ok-new.field-0 c.in_ok-with_capacity.field-0.items c.in_ok-with_capacity.ensures.items c.in_ok-new.ensures;
-  room = omega (arith, c.in_ok-with_capacity.ensures.exact);
+  small = omega (arith, c.requires.small, c.in_ok-vec.ensures.len);
+  starts = λ run. (λ has. absurd (c.in_ok-new.ensures run has), λ has. absurd (no_run c.in_ok-vec.field-0.items (length c.args.descriptors.now / 64) (c.in_ok-vec.ensures.items_if_clones_equal (λ y same. same)) run has));
 }
+
+pub loop-page-init : goal.loop-page-init
+loop-page-init c =
+    let words = c.in_ok-vec.field-0.items in
+    let zeros = c.in_ok-vec.ensures.items_if_clones_equal (λ y same. same) in
+    record {
+      well_formed = well_formed words;
+      page_count = omega (arith, c.requires.whole, c.in_ok-vec.ensures.len);
+      pages = λ other. (λ free. absurd (none_free words (length c.args.descriptors.now / 64) zeros other ((free_same words other).1 free)), λ below. absurd (omega (arith, below.0)));
+      left = refl;
+    }
 
 pub loop-page-preserved : goal.loop-page-preserved
 loop-page-preserved c =

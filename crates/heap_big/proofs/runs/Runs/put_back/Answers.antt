@@ -1,95 +1,172 @@
-use Rattle.std.proofs.Common.{◌≡◌, ◌≤◌, ◌%◌, ◌++◌, ℕ, List, take, drop, refl, sym, ap, subst, arith}
-use Rattle.std.specs.List.Sorted.{IsNonDecreasingBy}
-use Rattle.heap_big.specs.declared.run.Run.{Run}
-use Rattle.heap_big.specs.Runs.{end_of, HasPage, IsFree, IsInSegment, AreRuns, Adds}
-use Rattle.heap_big.specs.Join.{with_right, without_right, with_last}
-use Rattle.heap_big.proofs.Indexing.{runs_up_to}
-use Rattle.heap_big.proofs.PutBack.{IsPlace, IsPutBack, put_back_seen}
-use Rattle.heap_big.proofs.Places.{rising}
+use Rattle.std.proofs.Common.{ℕ, List, set, bit_or, refl, sym, subst, arith}
+use Rattle.std.proofs.lemmas.List.{length-set}
+use Rattle.heap_big.specs.Pages.{pages_of}
+use Rattle.heap_big.specs.Runs.{Adds}
+use Rattle.heap_big.specs.Index.{runs_of}
+use Rattle.heap_big.specs.Starts.{Indexes}
+use Rattle.heap_big.proofs.Grouping.{well_formed}
+use Rattle.heap_big.proofs.PutBack.{has_left, has_right, has_not_whole, indexed_after, adds, as_written}
 use Rattle.heap_big.proofs.runs.Runs.put_back.Goals as goal
 
-pub place_for-at-requires : goal.place_for-at-requires
-place_for-at-requires c = subst (IsNonDecreasingBy (λ (run : Run). run.first)) (sym c.deref.ensures.value) (rising 0 _ _ c.self.invariant.runs)
+pub remove-requires : goal.remove-requires
+remove-requires c = has_left c.self.inside.free.items c.args.self.now c.self.inside.starts c.args.run c.neighbours.result.0 c.neighbours.result.1 c.from-at.result c.index-free.result.now
+    (record {
+      view = c.self.view_is;
+      indexed = c.self.invariant.starts;
+      in_segment = c.requires.in_segment;
+      end = c.requires.within;
+      not_free = c.requires.not_free;
+      segment = c.from-at.ensures;
+      read = c.index-free.ensures;
+      beside = record {
+        left_end = c.neighbours.ensures.left;
+        left_short = c.neighbours.ensures.left_in_segment;
+        left_free = c.neighbours.ensures.left_free;
+        left_whole = c.neighbours.ensures.left_whole;
+        right_begin = c.neighbours.ensures.right;
+        right_short = c.neighbours.ensures.right_in_segment;
+        right_free = c.neighbours.ensures.right_free;
+        right_whole = c.neighbours.ensures.right_whole;
+      };
+    })
 
--- the runs end within the largest heap
-pub join_right-run-requires-clause-order : goal.join_right-run-requires-clause-order
-join_right-run-requires-clause-order c = runs_up_to 0 c.self.inside.page_count 8192 c.self.inside.runs.items c.self.invariant.small c.self.invariant.runs
+pub remove-requires-2 : goal.remove-requires-2
+remove-requires-2 c = has_right c.self.inside.free.items c.args.self.now c.self.inside.starts c.args.run c.neighbours.result.0 c.neighbours.result.1 c.from-at.result c.index-free.result.now
+    (record {
+      view = c.self.view_is;
+      indexed = c.self.invariant.starts;
+      in_segment = c.requires.in_segment;
+      end = c.requires.within;
+      not_free = c.requires.not_free;
+      segment = c.from-at.ensures;
+      read = c.index-free.ensures;
+      beside = record {
+        left_end = c.neighbours.ensures.left;
+        left_short = c.neighbours.ensures.left_in_segment;
+        left_free = c.neighbours.ensures.left_free;
+        left_whole = c.neighbours.ensures.left_whole;
+        right_begin = c.neighbours.ensures.right;
+        right_short = c.neighbours.ensures.right_in_segment;
+        right_free = c.neighbours.ensures.right_free;
+        right_whole = c.neighbours.ensures.right_whole;
+      };
+    })
+    c.remove.new.self c.remove.ensures
 
--- what is left once the run is joined to the one behind its place
-module _ (page_count : ℕ) (runs seen free between : List Run) (at : ℕ) (run run' : Run) (whole : page_count % 64 ≡ 0) (order : AreRuns 0 runs page_count) (segment : IsInSegment run) (within : end_of run ≤ page_count)
-    (same : seen ≡ runs) (was : runs ≡ free) (not_free : (page : ℕ) → HasPage run page → IsFree free page → ⊥) (place : IsPlace seen run.first at)
-    (run_is : run' ≡ with_right run (drop at runs)) (between_is : between ≡ take at runs ++ without_right run (drop at runs)) where
-  joining : IsPutBack page_count runs run between run' (with_last (take at between) run' ++ drop at between)
-  joining = put_back_seen page_count at runs seen free run whole order segment within same was not_free place between (with_last (take at between) run' ++ drop at between) run' run_is between_is refl
-
-  joined : (new : List Run) → new ≡ with_last (take at between) run' ++ drop at between → IsPutBack page_count runs run between run' new
-  joined new is = put_back_seen page_count at runs seen free run whole order segment within same was not_free place between new run' run_is between_is is
-
-pub join_left-requires-clause-room : goal.join_left-requires-clause-room
-join_left-requires-clause-room c =
-    let put = joining c.self.inside.page_count c.self.inside.runs.items c.deref.result.now c.args.self.now.runs c.join_right-run.new.runs.items c.place_for-at.result c.args.run c.join_right-run.result
-    c.self.invariant.whole c.self.invariant.runs c.requires.in_segment (subst (λ free. end_of c.args.run ≤ free.page_count) (sym c.self.view_is) c.requires.within)
-    c.deref.ensures.value (ap (λ free. free.runs) c.self.view_is) c.requires.not_free
-    (record { within = c.place_for-at.ensures.within; before = c.place_for-at.ensures.before; behind = c.place_for-at.ensures.behind })
-    c.join_right-run.ensures.run c.join_right-run.ensures.runs in
-    omega (arith, put.room, c.self.invariant.room, c.join_right-run.ensures.capacity)
-
-pub join_left-requires-clause-order : goal.join_left-requires-clause-order
-join_left-requires-clause-order c =
-    let put = joining c.self.inside.page_count c.self.inside.runs.items c.deref.result.now c.args.self.now.runs c.join_right-run.new.runs.items c.place_for-at.result c.args.run c.join_right-run.result
-    c.self.invariant.whole c.self.invariant.runs c.requires.in_segment (subst (λ free. end_of c.args.run ≤ free.page_count) (sym c.self.view_is) c.requires.within)
-    c.deref.ensures.value (ap (λ free. free.runs) c.self.view_is) c.requires.not_free
-    (record { within = c.place_for-at.ensures.within; before = c.place_for-at.ensures.before; behind = c.place_for-at.ensures.behind })
-    c.join_right-run.ensures.run c.join_right-run.ensures.runs in
-    runs_up_to 0 c.self.inside.page_count 8192 c.join_right-run.new.runs.items c.self.invariant.small put.between_order
-
-pub join_left-requires-clause-in_segment : goal.join_left-requires-clause-in_segment
-join_left-requires-clause-in_segment c =
-    let put = joining c.self.inside.page_count c.self.inside.runs.items c.deref.result.now c.args.self.now.runs c.join_right-run.new.runs.items c.place_for-at.result c.args.run c.join_right-run.result
-    c.self.invariant.whole c.self.invariant.runs c.requires.in_segment (subst (λ free. end_of c.args.run ≤ free.page_count) (sym c.self.view_is) c.requires.within)
-    c.deref.ensures.value (ap (λ free. free.runs) c.self.view_is) c.requires.not_free
-    (record { within = c.place_for-at.ensures.within; before = c.place_for-at.ensures.before; behind = c.place_for-at.ensures.behind })
-    c.join_right-run.ensures.run c.join_right-run.ensures.runs in
-    put.in_segment
-
-pub join_left-requires-clause-low : goal.join_left-requires-clause-low
-join_left-requires-clause-low c =
-    let put = joining c.self.inside.page_count c.self.inside.runs.items c.deref.result.now c.args.self.now.runs c.join_right-run.new.runs.items c.place_for-at.result c.args.run c.join_right-run.result
-    c.self.invariant.whole c.self.invariant.runs c.requires.in_segment (subst (λ free. end_of c.args.run ≤ free.page_count) (sym c.self.view_is) c.requires.within)
-    c.deref.ensures.value (ap (λ free. free.runs) c.self.view_is) c.requires.not_free
-    (record { within = c.place_for-at.ensures.within; before = c.place_for-at.ensures.before; behind = c.place_for-at.ensures.behind })
-    c.join_right-run.ensures.run c.join_right-run.ensures.runs in
-    omega (arith, put.low, c.self.invariant.small)
-
-pub join_left-requires-clause-new : goal.join_left-requires-clause-new
-join_left-requires-clause-new c =
-    let put = joining c.self.inside.page_count c.self.inside.runs.items c.deref.result.now c.args.self.now.runs c.join_right-run.new.runs.items c.place_for-at.result c.args.run c.join_right-run.result
-    c.self.invariant.whole c.self.invariant.runs c.requires.in_segment (subst (λ free. end_of c.args.run ≤ free.page_count) (sym c.self.view_is) c.requires.within)
-    c.deref.ensures.value (ap (λ free. free.runs) c.self.view_is) c.requires.not_free
-    (record { within = c.place_for-at.ensures.within; before = c.place_for-at.ensures.before; behind = c.place_for-at.ensures.behind })
-    c.join_right-run.ensures.run c.join_right-run.ensures.runs in
-    put.new_run
-
-put : (c : goal.After-join_left) → IsPutBack c.self.inside.page_count c.self.inside.runs.items c.args.run c.join_right-run.new.runs.items c.join_right-run.result c.join_left.new.runs.items
-put c = joined c.self.inside.page_count c.self.inside.runs.items c.deref.result.now c.args.self.now.runs c.join_right-run.new.runs.items c.place_for-at.result c.args.run c.join_right-run.result
-    c.self.invariant.whole c.self.invariant.runs c.requires.in_segment (subst (λ free. end_of c.args.run ≤ free.page_count) (sym c.self.view_is) c.requires.within)
-    c.deref.ensures.value (ap (λ free. free.runs) c.self.view_is) c.requires.not_free
-    (record { within = c.place_for-at.ensures.within; before = c.place_for-at.ensures.before; behind = c.place_for-at.ensures.behind })
-    c.join_right-run.ensures.run c.join_right-run.ensures.runs
-    c.join_left.new.runs.items c.join_left.ensures.runs
+pub add-requires-clause-new : goal.add-requires-clause-new
+add-requires-clause-new c = has_not_whole c.self.inside.free.items c.args.self.now c.self.inside.starts c.args.run c.neighbours.result.0 c.neighbours.result.1 c.from-at.result c.index-free.result.now
+    (record {
+      view = c.self.view_is;
+      indexed = c.self.invariant.starts;
+      in_segment = c.requires.in_segment;
+      end = c.requires.within;
+      not_free = c.requires.not_free;
+      segment = c.from-at.ensures;
+      read = c.index-free.ensures;
+      beside = record {
+        left_end = c.neighbours.ensures.left;
+        left_short = c.neighbours.ensures.left_in_segment;
+        left_free = c.neighbours.ensures.left_free;
+        left_whole = c.neighbours.ensures.left_whole;
+        right_begin = c.neighbours.ensures.right;
+        right_short = c.neighbours.ensures.right_in_segment;
+        right_free = c.neighbours.ensures.right_free;
+        right_whole = c.neighbours.ensures.right_whole;
+      };
+    })
+    c.remove.new.self c.remove.ensures c.remove-2.new.self c.remove-2.ensures
 
 pub invariant_of-self : goal.invariant_of-self
 invariant_of-self c =
+    let same = as_written c.self.inside.free.items c.args.self.now c.self.inside.starts c.args.run c.neighbours.result.0 c.neighbours.result.1 c.from-at.result c.index-free.result.now
+    (record {
+      view = c.self.view_is;
+      indexed = c.self.invariant.starts;
+      in_segment = c.requires.in_segment;
+      end = c.requires.within;
+      not_free = c.requires.not_free;
+      segment = c.from-at.ensures;
+      read = c.index-free.ensures;
+      beside = record {
+        left_end = c.neighbours.ensures.left;
+        left_short = c.neighbours.ensures.left_in_segment;
+        left_free = c.neighbours.ensures.left_free;
+        left_whole = c.neighbours.ensures.left_whole;
+        right_begin = c.neighbours.ensures.right;
+        right_short = c.neighbours.ensures.right_in_segment;
+        right_free = c.neighbours.ensures.right_free;
+        right_whole = c.neighbours.ensures.right_whole;
+      };
+    })
+    c.bits_of.result (bit_or c.index-free.result.now c.bits_of.result) c.bits_of.ensures refl in
     record {
-      whole = c.self.invariant.whole;
-      small = c.self.invariant.small;
-      runs = (put c).order;
-      starts = c.join_left.ensures.indexed;
-      room = omega (arith, c.self.invariant.room, c.join_right-run.ensures.capacity, c.join_left.ensures.capacity);
+      small = omega (arith, c.self.invariant.small, length-set c.self.inside.free.items c.from-at.result (bit_or c.index-free.result.now c.bits_of.result));
+      starts = subst (λ (l : List ℕ). Indexes c.add.new.self (runs_of (pages_of l))) (sym same) (indexed_after c.self.inside.free.items c.args.self.now c.self.inside.starts c.args.run c.neighbours.result.0 c.neighbours.result.1 c.from-at.result c.index-free.result.now
+          (record {
+            view = c.self.view_is;
+            indexed = c.self.invariant.starts;
+            in_segment = c.requires.in_segment;
+            end = c.requires.within;
+            not_free = c.requires.not_free;
+            segment = c.from-at.ensures;
+            read = c.index-free.ensures;
+            beside = record {
+              left_end = c.neighbours.ensures.left;
+              left_short = c.neighbours.ensures.left_in_segment;
+              left_free = c.neighbours.ensures.left_free;
+              left_whole = c.neighbours.ensures.left_whole;
+              right_begin = c.neighbours.ensures.right;
+              right_short = c.neighbours.ensures.right_in_segment;
+              right_free = c.neighbours.ensures.right_free;
+              right_whole = c.neighbours.ensures.right_whole;
+            };
+          })
+          c.remove.new.self c.remove.ensures c.remove-2.new.self c.remove-2.ensures c.add.new.self c.add.ensures);
     }
 
 pub returns-clause-pages : goal.returns-clause-pages
-returns-clause-pages c = subst (λ old. Adds old c.args.run c.join_left.new.runs.items) (ap (λ free. free.runs) c.self.view_is) (put c).pages
+returns-clause-pages c =
+    let same = as_written c.self.inside.free.items c.args.self.now c.self.inside.starts c.args.run c.neighbours.result.0 c.neighbours.result.1 c.from-at.result c.index-free.result.now
+    (record {
+      view = c.self.view_is;
+      indexed = c.self.invariant.starts;
+      in_segment = c.requires.in_segment;
+      end = c.requires.within;
+      not_free = c.requires.not_free;
+      segment = c.from-at.ensures;
+      read = c.index-free.ensures;
+      beside = record {
+        left_end = c.neighbours.ensures.left;
+        left_short = c.neighbours.ensures.left_in_segment;
+        left_free = c.neighbours.ensures.left_free;
+        left_whole = c.neighbours.ensures.left_whole;
+        right_begin = c.neighbours.ensures.right;
+        right_short = c.neighbours.ensures.right_in_segment;
+        right_free = c.neighbours.ensures.right_free;
+        right_whole = c.neighbours.ensures.right_whole;
+      };
+    })
+    c.bits_of.result (bit_or c.index-free.result.now c.bits_of.result) c.bits_of.ensures refl in
+    subst (λ (l : List ℕ). Adds c.args.self.now.runs c.args.run (runs_of (pages_of l))) (sym same) (adds c.self.inside.free.items c.args.self.now c.self.inside.starts c.args.run c.neighbours.result.0 c.neighbours.result.1 c.from-at.result c.index-free.result.now
+    (record {
+      view = c.self.view_is;
+      indexed = c.self.invariant.starts;
+      in_segment = c.requires.in_segment;
+      end = c.requires.within;
+      not_free = c.requires.not_free;
+      segment = c.from-at.ensures;
+      read = c.index-free.ensures;
+      beside = record {
+        left_end = c.neighbours.ensures.left;
+        left_short = c.neighbours.ensures.left_in_segment;
+        left_free = c.neighbours.ensures.left_free;
+        left_whole = c.neighbours.ensures.left_whole;
+        right_begin = c.neighbours.ensures.right;
+        right_short = c.neighbours.ensures.right_in_segment;
+        right_free = c.neighbours.ensures.right_free;
+        right_whole = c.neighbours.ensures.right_whole;
+      };
+    }))
 
 pub returns-clause-well_formed : goal.returns-clause-well_formed
-returns-clause-well_formed c = record { whole = c.self.invariant.whole; runs = (put c).order }
+returns-clause-well_formed c = well_formed (set c.self.inside.free.items c.from-at.result (bit_or c.index-free.result.now c.bits_of.result))

@@ -6,7 +6,8 @@ use Rattle.heap_big.specs.declared.run.Run.{Run}
 use Rattle.heap_big.specs.Starts.{HasRun}
 use Rattle.std.specs.Int.Count.{count_leading_zeros, leading_of_zero}
 use Rattle.std.proofs.lemmas.Bool.{cases_eq, cases_lt}
-use Rattle.heap_big.proofs.Lengths.{longest_bit, set_some, some-contains, marked, AreMarked}
+use Rattle.heap_big.proofs.Lengths.{set_some, some-contains, marked, AreMarked}
+use Rattle.heap_big.proofs.Bits.{highest_bit}
 use Rattle.heap_big.proofs.starts.Starts.longest.Goals as goal
 
 module _ (sets view : List (List ℕ)) (used : ℕ) (size : length sets ≡ 64) (are : AreMarked sets used) (fits : used < 2 ^ 64) (is : sets ≡ view) where
@@ -14,7 +15,7 @@ module _ (sets view : List (List ℕ)) (used : ℕ) (size : length sets ≡ 64) 
   reached = ⊎_elim
       (λ (none : used ≡ 0). inl (let all = ap (count_leading_zeros 64) none ∙ leading_of_zero 64 in omega (arith, all)))
       (λ some.
-      let top = longest_bit sets used size are fits (omega (arith, some)) in
+      let top = highest_bit used (omega (arith, some)) fits in
       let first = some-contains (get_or sets top.0 []) (set_some sets used size are fits top.0 top.2) in
       let run : Run = record { first = first.0; pages = top.0 + 1 } in
       let back : top.0 + 1 - 1 ≡ top.0 = omega arith in
@@ -28,7 +29,7 @@ module _ (sets view : List (List ℕ)) (used : ℕ) (size : length sets ≡ 64) 
       ⊎_elim
       (λ (none : used ≡ 0). absurd (marked sets used run size are has (ap (λ (n : ℕ). bit_at n (run.pages - 1)) none ∙ bit_at-zero (run.pages - 1))))
       (λ some.
-      let top = longest_bit sets used size are fits (omega (arith, some)) in
+      let top = highest_bit used (omega (arith, some)) fits in
       ⊎_elim
       (λ (above : top.0 < run.pages - 1). absurd (marked sets used run size are has (top.3 (run.pages - 1) above)))
       (λ below. omega (arith, below, top.1))

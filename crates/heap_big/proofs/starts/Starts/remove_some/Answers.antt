@@ -7,7 +7,7 @@ use Rattle.heap_big.specs.declared.run.Run.{Run}
 use Rattle.heap_big.specs.Pages.{GainsOne}
 use Rattle.heap_big.specs.Starts.{HasRun}
 use Rattle.heap_big.proofs.Lengths.{taken_out, marked_by, has_run-short, marked}
-use Rattle.heap_big.proofs.starts.Starts.remove.Goals as goal
+use Rattle.heap_big.proofs.starts.Starts.remove_some.Goals as goal
 
 -- the set of a length, as it is read
 read : (sets : List (List ℕ)) (at : ℕ) (now : List ℕ) → at < 64 → length sets ≡ 64 → now ≡ get_or sets at now → now ≡ get_or sets at []
