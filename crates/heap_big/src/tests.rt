@@ -92,16 +92,21 @@ fn the_best_fit_is_taken(rt: HostRuntime) -> Result<(), Fail> {
 
 #[test]
 fn neighbours_are_joined(rt: HostRuntime) -> Result<(), Fail> {
-    let mut index = index(&rt, rt.alloc(), 128, &[(0, 8), (1, 8), (2, 8), (3, 8)])?;
-    let second_segment = index.take(64).expect(&rt, "64 pages");
-    let first = index.take(20).expect(&rt, "20 pages");
-    let second = index.take(30).expect(&rt, "30 pages");
-    let third = index.take(10).expect(&rt, "10 pages");
-    assert_eq!(rt; index.largest(), 0);
-    for (back, largest) in [(first, 20), (third, 20), (second, 60), (second_segment, 64)] {
-        index.put_back(back);
-        assert_eq!(rt; index.largest(), largest);
-    }
-    assert_eq!(rt; index.take(61), Some(run(64, 61)));
+    let formatted = [(0, 8), (1, 8), (2, 8), (3, 8)];
+    let mut index = index(&rt, rt.alloc(), 128, &formatted)?;
+    let first = index.take(58).expect(&rt, "58 pages");
+    let second = index.take(2).expect(&rt, "2 pages");
+    assert_eq!(rt; index.largest(), 64);
+    index.put_back(first);
+    index.put_back(second);
+    assert_eq!(rt; index.largest(), 64);
+    let whole = index.take(60).expect(&rt, "60 pages");
+    assert_eq!(rt; whole, run(4, 60));
+    index.put_back(whole);
+    let first = index.take(59).expect(&rt, "59 pages");
+    let second = index.take(1).expect(&rt, "1 page");
+    index.put_back(second);
+    index.put_back(first);
+    assert_eq!(rt; index.take(60), Some(run(4, 60)));
     Ok(())
 }
