@@ -24,6 +24,10 @@ pub record IsFreePage (descriptors : List ℕ) (page : ℕ) : Type 0 where
   pub outside : inside_at descriptors page ≡ 0
   pub unused : slice_index descriptors page ≤ 1
 
+-- the run has no page, or ends before this page of its segment
+abbrev pub EndsAt : Run → ℕ → Type 0
+EndsAt run page = (run.pages ≡ 0) ⊎ ((end_of run ≡ page) × (run.pages ≤ page % 64))
+
 -- the descriptor stands for so many pages that aren't free: a small or a reserved page, or the head of a big block
 pub record IsHeadOf (count descriptor : ℕ) : Type 0 where
   pub used : 2 ≤ descriptor

@@ -1,7 +1,7 @@
-ghost use Rattle.std.specs.Prelude.{◌≡◌, ◌+◌, ◌*◌, ◌/◌, ◌%◌, ◌<◌, ◌≤◌, ◌↔◌, All, IsNone, IfOk, IfSome, IfNone, length, ℕ, slice_index, vec_len};
+ghost use Rattle.std.specs.Prelude.{◌≡◌, ◌⊎◌, ◌+◌, ◌*◌, ◌/◌, ◌%◌, ◌<◌, ◌≤◌, ◌↔◌, All, IsNone, IfOk, IfSome, IfNone, length, ℕ, slice_index, vec_len};
 ghost use Rattle.heap_big.specs.Runs.{end_of, HasPage, IsFree, IsInSegment, longest, IsGreatest, IsWellFormed, Adds, Removes};
 ghost use Rattle.heap_big.specs.Fit.{TakesBestFit};
-ghost use Rattle.heap_big.specs.Descriptors.{inside_next, IsFreePage};
+ghost use Rattle.heap_big.specs.Descriptors.{inside_next, IsFreePage, EndsAt};
 
 use crate::segment::{bits_of, neighbours};
 use crate::starts::Starts;
@@ -21,6 +21,8 @@ fn left_behind(page: u16, descriptor: u64, inside: u64) -> u64
     }
     descriptor.saturating_sub(17)
 }
+
+const NO_PAGES: Run = Run { first: 0, pages: 0 };
 
 /// The index of the free runs of a heap.
 #[derive(Debug, Drop)]
@@ -59,33 +61,61 @@ impl Runs {
             starts: Starts::new(alloc)?,
         };
         let mut inside = 0;
+        let mut pending = NO_PAGES;
         for (page, descriptor) in descriptors.iter().enumerate() {
-            inside = index.scan(page as u16, *descriptor, inside);
+            pending = index.scan(page as u16, *descriptor, inside, pending);
+            inside = left_behind(page as u16, *descriptor, inside);
         }
         Ok(index)
     }
 
-    // Puts the next page back where it is free, and gives how many pages of a big block are left
-    // behind it.
-    fn scan(&mut self, page: u16, descriptor: u64, inside: u64) -> u64
+    // Reads the next page, behind free ones that aren't in the index yet, and gives those that aren't so behind it. They
+    // are put back together, where a page isn't free or the segment ends.
+    fn scan(&mut self, page: u16, descriptor: u64, inside: u64, pending: Run) -> Run
         requires well_formed { IsWellFormed self.old }
         requires within { page < self.old.page_count }
         requires not_free { IsFree self.old.runs page → ⊥ }
-        ensures left { result ≡ inside_next page inside descriptor }
-        ensures free { inside ≡ 0 → descriptor ≤ 1
-            → Adds self.old.runs (record { first = page; pages = 1 }) self.new.runs }
-        ensures inside { 0 < inside → self.new ≡ self.old }
-        ensures used { 1 < descriptor → self.new ≡ self.old }
+        requires pending { EndsAt pending page }
+        requires apart { (other : ℕ) → HasPage pending other → IsFree self.old.runs other → ⊥ }
+        ensures free { inside ≡ 0 → descriptor ≤ 1 → (other : ℕ)
+            → (IsFree self.new.runs other ⊎ HasPage result other) ↔ ((IsFree self.old.runs other ⊎ HasPage pending other) ⊎ (other ≡ page)) }
+        ensures inside { 0 < inside → (other : ℕ)
+            → (IsFree self.new.runs other ⊎ HasPage result other) ↔ (IsFree self.old.runs other ⊎ HasPage pending other) }
+        ensures used { 1 < descriptor → (other : ℕ)
+            → (IsFree self.new.runs other ⊎ HasPage result other) ↔ (IsFree self.old.runs other ⊎ HasPage pending other) }
+        ensures pending { EndsAt result (page + 1) }
+        ensures apart { (other : ℕ) → HasPage result other → IsFree self.new.runs other → ⊥ }
         ensures page_count { self.new.page_count ≡ self.old.page_count }
         ensures well_formed { IsWellFormed self.new }
     {
-        if inside == 0 && descriptor <= 1 {
-            self.put_back(Run {
-                first: page,
-                pages: 1,
-            });
+        if inside > 0 || descriptor > 1 {
+            self.put_back_any(pending);
+            return NO_PAGES;
         }
-        left_behind(page, descriptor, inside)
+        let longer = Run {
+            first: page - pending.pages as u16,
+            pages: pending.pages + 1,
+        };
+        if page % 64 < 63 {
+            return longer;
+        }
+        self.put_back(longer);
+        NO_PAGES
+    }
+
+    // Makes the pages of the run free, where it has any.
+    fn put_back_any(&mut self, run: Run)
+        requires well_formed { IsWellFormed self.old }
+        requires in_segment { 0 < run.pages → IsInSegment run }
+        requires within { 0 < run.pages → end_of run ≤ self.old.page_count }
+        requires not_free { (page : ℕ) → HasPage run page → IsFree self.old.runs page → ⊥ }
+        ensures pages { Adds self.old.runs run self.new.runs }
+        ensures page_count { self.new.page_count ≡ self.old.page_count }
+        ensures well_formed { IsWellFormed self.new }
+    {
+        if run.pages > 0 {
+            self.put_back(run);
+        }
     }
 
     /// Takes so many pages from the front of the shortest run that has them, and of several such

@@ -1,10 +1,12 @@
-use Rattle.std.proofs.Common.{◌≡◌, ℕ, ◌*◌, ◌/◌, ◌%◌, true, zero, suc, List, length, get_or, replicate, ap, ◌∙◌, refl, arith}
+use Rattle.std.proofs.Common.{◌≡◌, ℕ, ◌*◌, ◌/◌, ◌%◌, true, zero, suc, List, inl, inr, ⊎_elim, length, get_or, replicate, ap, ◌∙◌, refl, arith}
 use Rattle.std.specs.Prelude.{Contains}
 use Rattle.heap_big.specs.declared.run.Run.{Run}
 use Rattle.std.specs.Int.{bit_at}
 use Rattle.std.proofs.lemmas.Nat.Bits.{bit_at-zero}
 use Rattle.heap_big.specs.Pages.{has_page, pages_of}
 use Rattle.heap_big.specs.Index.{runs_of}
+use Rattle.heap_big.specs.Runs.{HasPage}
+use Rattle.heap_big.specs.Descriptors.{EndsAt}
 use Rattle.heap_big.proofs.Bits.{bit_read}
 use Rattle.heap_big.proofs.Grouping.{runs_order, free_same, well_formed}
 use Rattle.heap_big.proofs.Maximal.{contains_maximal}
@@ -42,24 +44,36 @@ loop-page-init c =
     record {
       well_formed = well_formed words;
       page_count = omega (arith, c.requires.whole, c.in_ok-vec.ensures.len);
-      pages = λ other. (λ free. absurd (none_free words (length c.args.descriptors.now / 64) zeros other ((free_same words other).1 free)), λ below. absurd (omega (arith, below.0)));
+      ends = inl refl;
+      apart = λ other has. omega (arith, has.1);
+      pages = λ other. (
+        λ known. absurd (⊎_elim (λ free. none_free words (length c.args.descriptors.now / 64) zeros other ((free_same words other).1 free)) (λ has. omega (arith, has.1)) known),
+        λ below. absurd (omega (arith, below.0)),
+      );
       left = refl;
     }
 
 pub loop-page-preserved : goal.loop-page-preserved
 loop-page-preserved c =
-    scanned_next c.args.descriptors.now c.loop-page.page c.loop-page.inside _ _ c.loop-page.index c.scan-inside.new.self c.loop-page-test.true refl c.loop-page.invariant
+    scanned_next c.args.descriptors.now c.loop-page.page c.loop-page.inside _ _ c.loop-page.index c.scan-pending.new.self c.loop-page.pending c.scan-pending.result c.loop-page-test.true refl c.loop-page.invariant
     (record {
-      free_page = c.scan-inside.ensures.free;
-      inside_block = c.scan-inside.ensures.inside;
-      used_page = c.scan-inside.ensures.used;
-      page_count = c.scan-inside.ensures.page_count;
-      well_formed = c.scan-inside.ensures.well_formed;
+      free_page = c.scan-pending.ensures.free;
+      inside_block = c.scan-pending.ensures.inside;
+      used_page = c.scan-pending.ensures.used;
+      ends = c.scan-pending.ensures.pending;
+      apart = c.scan-pending.ensures.apart;
+      page_count = c.scan-pending.ensures.page_count;
+      well_formed = c.scan-pending.ensures.well_formed;
     })
-    c.scan-inside.ensures.left
+    c.left_behind-inside.ensures
+
+-- where the last segment ends no run is pending
+none_open : (pending : Run) (page other : ℕ) → EndsAt pending page → page % 64 ≡ 0 → HasPage pending other → ⊥
+none_open pending page other (inl none) ends has = omega (arith, none, has.0, has.1)
+none_open pending page other (inr some) ends has = omega (arith, some.1, ends, has.0, has.1)
 
 pub returns-clause-pages : goal.returns-clause-pages
 returns-clause-pages c = λ page. (
-  λ h. ((c.loop-page.invariant.pages page).0 h).1,
-  λ free. (c.loop-page.invariant.pages page).1 (omega (arith, free.within), free),
+  λ free. ((c.loop-page.invariant.pages page).0 (inl free)).1,
+  λ free. ⊎_elim (λ known. known) (λ has. absurd (none_open c.loop-page.pending c.loop-page.page page c.loop-page.invariant.ends (let end : c.loop-page.page ≡ length c.args.descriptors.now = omega arith in ap (λ (n : ℕ). n % 64) end ∙ c.requires.whole) has)) ((c.loop-page.invariant.pages page).1 (omega (arith, free.within), free)),
 )
