@@ -1,5 +1,6 @@
 // A memory that takes a picture of itself.
-ghost use Rattle.std.specs.Prelude.{◌≡◌, None};
+ghost use Rattle.std.specs.Prelude.{◌↔◌, IsNone, ◌≡◌, ◌≢◌, ◌+◌, ◌-◌, ◌^◌, ◌<◌, ◌≤◌, None, Some, min, ℕ, List, IfSome, length};
+ghost use Rattle.pm_model.specs.Device.{CanAct, acted, image_of};
 
 use pm_model::{Action, Keep, Memory, NoMemory, Place};
 
@@ -35,7 +36,10 @@ impl<M: Memory> Witness<M> {
     }
 
     /// The image. `None` before that action, and where memory was refused.
-    pub fn image(&self) -> Option<&Vec<u64>> {
+    pub fn image(&self) -> Option<&Vec<u64>>
+        ensures none { IsNone result ↔ (self.now.image ≡ None) }
+        ensures some { IfSome result (λ image. self.now.image ≡ Some image.now) }
+    {
         self.image.as_ref()
     }
 }
@@ -57,7 +61,18 @@ impl<M: Memory> Memory for Witness<M> {
         self.inner.is_clean(at)
     }
 
-    fn act(&mut self, session: u8, action: Action) {
+    /// The image is taken once so many actions were played as the cut is to come after, and stays as it is at each other
+    /// action.
+    fn act(&mut self, session: u8, action: Action)
+        requires session { session ≤ 16 }
+        requires can_act { CanAct action (M.device self.old.inner) }
+        ensures acted { M.device self.new.inner ≡ acted session action (M.device self.old.inner) }
+        ensures played { self.new.played ≡ min (self.old.played + 1) (2 ^ 64 - 1) }
+        ensures taken { self.new.played ≡ self.old.at → IfSome self.new.image (λ image. image.items ≡ image_of self.old.keep (M.device self.new.inner)) }
+        ensures kept { self.new.played ≢ self.old.at → self.new.image ≡ self.old.image }
+        ensures at { self.new.at ≡ self.old.at }
+        ensures keep { self.new.keep ≡ self.old.keep }
+    {
         self.inner.act(session, action);
         self.played = self.played.saturating_add(1);
         if self.played == self.at {
