@@ -9,15 +9,18 @@ ghost use Rattle.heap_palloc.specs.Parts.{Allocation, lane_part, allocation_part
 
 use heap_big::Run;
 use pm_model::{
-    ALLOCATING, Action, FREEING, GIVEN_BACK, IDLE, Memory, PAGE_WORDS, PPtr, Page, Place, Plan,
-    SMALL_PAGE, descriptor, lane_block, lane_dest, lane_op,
+    ALLOCATING, Action, FREEING, GIVEN_BACK, IDLE, LINE_WORDS, Memory, PAGE_WORDS, PPtr, Page,
+    Place, Plan, SMALL_PAGE, descriptor, lane_block, lane_dest, lane_op,
 };
 
 // The actions of a part of one store: the store, a flush and a fence.
 pub(crate) const STORE_ACTIONS: u32 = 3;
 
-// No more than the two stores, two flushes and the fence of the lane's part, and four parts of one store.
-pub(crate) const ALLOCATION_ACTIONS: u32 = 5 + 4 * STORE_ACTIONS;
+// The actions of a lane's part: two stores into its line, a flush and a fence.
+const LANE_ACTIONS: u32 = 4;
+
+// The actions of an allocation and of a freeing: the lane's part, and four parts of one store.
+pub(crate) const ALLOCATION_ACTIONS: u32 = LANE_ACTIONS + 4 * STORE_ACTIONS;
 
 pub(crate) const NEW_PAGE_ACTIONS: u32 = 2 * STORE_ACTIONS;
 
@@ -39,19 +42,24 @@ pub(crate) fn push_lane(plan: &mut Plan, lane: u8, owner: Place, block: Place)
     requires lane { lane < 16 }
     requires owner { owner.0 < 4194304 }
     requires block { block.0 < 4194304 }
-    requires room { 5 ≤ plan.old.spare }
+    requires room { 4 ≤ plan.old.spare }
     ensures left { plan.new.left ≡ plan.old.left ++ part_actions (lane_part (record { lane = lane; owner = owner.0; block = block.0; marked = 0 })) }
-    ensures spare { plan.old.spare ≤ plan.new.spare + 5 }
+    ensures spare { plan.new.spare + 4 ≡ plan.old.spare }
 {
+    let dest = lane_dest(lane);
     plan.push(Action::Store {
-        place: lane_dest(lane),
+        place: dest,
         value: PPtr::of(owner).word(),
     });
     plan.push(Action::Store {
         place: lane_block(lane),
         value: PPtr::of(block).word(),
     });
-    plan.end_part(2);
+    // Both words lie in the lane's line.
+    plan.push(Action::Flush {
+        line: dest.0 / LINE_WORDS,
+    });
+    plan.push(Action::Fence);
 }
 
 /// Adds an allocation, whose mark becomes `marked`.
@@ -59,9 +67,9 @@ pub(crate) fn push_allocation(plan: &mut Plan, lane: u8, owner: Place, block: Pl
     requires lane { lane < 16 }
     requires owner { owner.0 < 4194304 }
     requires block { block.0 < 4194304 }
-    requires room { 17 ≤ plan.old.spare }
+    requires room { 16 ≤ plan.old.spare }
     ensures left { plan.new.left ≡ plan.old.left ++ plan_of (allocation_parts (record { lane = lane; owner = owner.0; block = block.0; marked = marked })) }
-    ensures spare { plan.old.spare ≤ plan.new.spare + 17 }
+    ensures spare { plan.new.spare + 16 ≡ plan.old.spare }
 {
     push_lane(plan, lane, owner, block);
     plan.push_store(lane_op(lane), ALLOCATING);
@@ -75,9 +83,9 @@ pub(crate) fn push_freeing(plan: &mut Plan, lane: u8, owner: Place, block: Place
     requires lane { lane < 16 }
     requires owner { owner.0 < 4194304 }
     requires block { block.0 < 4194304 }
-    requires room { 17 ≤ plan.old.spare }
+    requires room { 16 ≤ plan.old.spare }
     ensures left { plan.new.left ≡ plan.old.left ++ plan_of (freeing_parts (record { lane = lane; owner = owner.0; block = block.0; marked = 0 }) clear) }
-    ensures spare { plan.old.spare ≤ plan.new.spare + 17 }
+    ensures spare { plan.new.spare + 16 ≡ plan.old.spare }
 {
     push_lane(plan, lane, owner, block);
     plan.push_store(lane_op(lane), FREEING);

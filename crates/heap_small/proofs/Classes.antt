@@ -1,7 +1,16 @@
--- No slot has more than 256 words.
-use Rattle.std.proofs.Common.{ℕ, ◌<◌, ◌≤◌, arith}
+-- The class of a block by how many bits the number of its last line has.
+use Rattle.std.proofs.Common.{ℕ, suc, ⊎_elim, ◌+◌, ◌-◌, ◌*◌, ◌/◌, ◌^◌, ◌<◌, ◌≤◌, arith}
+use Rattle.std.proofs.lemmas.Bool.{cases_lt}
 use Rattle.std.proofs.Math.Pow.{pow_mono}
-use Rattle.heap_small.specs.Class.{slot_words}
+use Rattle.heap_small.specs.Class.{IsLeastFor}
 
-pub slot_words-le : (class : ℕ) → class < 6 → slot_words class ≤ 256
-slot_words-le class h = omega (arith, pow_mono {i = class} {j = 5} (omega arith))
+module _ (words bits : ℕ) (some : 1 ≤ words) (below : (words - 1) / 8 < 2 ^ bits) (above : 2 ^ bits ≤ 2 * ((words - 1) / 8) + 1) where
+  pub least_by_bits : IsLeastFor words bits
+  least_by_bits = record {
+    holds = omega (arith, some, below);
+    least = λ lower lt. omega (arith, some, above, pow_mono {i = suc lower} {j = bits} lt);
+  }
+
+  -- of 256 words the last line is line 31, which has five bits
+  pub few_bits : words ≤ 256 → bits < 6
+  few_bits most = ⊎_elim (λ less. less) (λ more. absurd (omega (arith, some, most, above, pow_mono {i = 6} {j = bits} more))) (cases_lt bits 6)

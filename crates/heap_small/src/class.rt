@@ -43,13 +43,13 @@ pub fn class_for(words: u32) -> Option<Class>
     ensures none { IsNone result ↔ (256 < words) }
     ensures least { IfSome result (IsLeastFor words) }
 {
-    for number in 0..6 {
-        let class = Class(number);
-        if words <= class_words(class) {
-            return Some(class);
-        }
+    if words > 256 {
+        return None;
     }
-    None
+    // A slot of class `c` has 2^c lines of 8 words, numbered from 0: so the least class that holds the words is how many
+    // bits the number of their last line has.
+    let last_line = (words - 1) / 8;
+    Some(Class((u32::BITS - last_line.leading_zeros()) as u8))
 }
 
 /// The words of one slot.

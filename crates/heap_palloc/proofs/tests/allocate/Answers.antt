@@ -1,4 +1,4 @@
-use Rattle.heap_palloc.proofs.Settled.{planned_parts, planned_settled, planned_gains, planned_owned}
+use Rattle.heap_palloc.proofs.Settled.{planned_parts, planned_settled, planned_owned}
 use Rattle.heap_palloc.proofs.tests.allocate.Goals as goal
 
 pub play_whole-requires-clause-planned : goal.play_whole-requires-clause-planned
