@@ -22,6 +22,7 @@ pub mod Ranges
 pub mod Reindex
 pub mod Rooms
 pub mod RulesKept
+pub mod SameHeaps
 pub mod Scans
 pub mod Settled
 pub mod SlotCalls
