@@ -14,10 +14,9 @@ ghost use Rattle.engine_core.specs.Opening.{is_open, last_mending, undo_mending,
 ghost use Rattle.engine_core.specs.Mended.{mending_of, mended_plan, mended_words, cleared_part, AreMended, IsMending, IsOfObject, IsTaken};
 
 use crate::layout::{born, ended, high};
-use crate::rules::DEAD;
 use pm_model::{
-    Action, Memory, NoMemory, OBJECT_ENTRIES, OBJECTS, Place, Plan, commit_word, entry_word,
-    last_commit, object_state, play,
+    Action, Memory, NO_COMMIT, NoMemory, OBJECT_ENTRIES, OBJECTS, Place, Plan, commit_word,
+    entry_word, last_commit, object_state, play,
 };
 use std::alloc::Global;
 use txn_object::{Entry, EntryKind};
@@ -283,7 +282,10 @@ fn push_undo<M: Memory>(memory: &M, entry: Entry, part: &mut Vec<Action>)
             let place = born(entry.row);
             let stamp = memory.load(place);
             if stamp == 0 || last < stamp {
-                part.push_reserved(Action::Store { place, value: DEAD });
+                part.push_reserved(Action::Store {
+                    place,
+                    value: NO_COMMIT,
+                });
             }
         }
         EntryKind::Ended => {
