@@ -13,9 +13,10 @@ use Rattle.pm_model.specs.Tables.{table_count, table_block, columns_of}
 use Rattle.pm_model.specs.Checks.{Check, check, Keeps, first_failing}
 use Rattle.pm_model.specs.SoundRules.{is_created, is_ended, row_checks, row_headers, stamp_checks, stamp_rule}
 use Rattle.image_rules.specs.Stamps.{chunk_place, place_checks}
+use Rattle.pm_model.proofs.Faults.{passes, fails}
 use Rattle.pm_model.proofs.ChunkSizes.{capacity_next, capacity-rises, chunk_is}
 use Rattle.image_rules.proofs.TableArrays.{array_kept}
-use Rattle.image_rules.proofs.Firsts.{passes, fails, flat_none, flat_found, found_none, map-range}
+use Rattle.image_rules.proofs.Firsts.{flat_none, flat_found, found_none, map-range}
 
 -- ── numbers in runs ──
 
