@@ -23,11 +23,11 @@ use Rattle.heap_palloc.proofs.BigPlans.{take_heads}
 use Rattle.heap_palloc.proofs.GivenBack.{cleaned, cleaned_forgets, cleaned_may, forgets_free}
 use Rattle.heap_palloc.proofs.Dests.{dest_place, big_heap_page}
 use Rattle.heap_palloc.proofs.SameHeaps.{index_kept}
+use Rattle.heap_palloc.proofs.Lengths.{taking_length}
 use Rattle.pm_model.specs.Arrays.{chunk_pages, chunk_words, chunk_count}
 use Rattle.seg_array.specs.Growth.{Growth, next_pointer_at, next_chunk, allocating_parts, publishing_parts, growth_parts, MayGrow}
 use Rattle.seg_array.specs.Calls.{MayPlanGrowth, OwnsNext, IsChunkPlanned, IsGrowthPlanned}
 use Rattle.seg_array.proofs.Headers.{NamesChunk, owned, at_most_12}
-use Rattle.seg_array.proofs.Lengths.{taking_length}
 use Rattle.seg_array.proofs.Growing.{in_image, ends_heap}
 use Rattle.seg_array.proofs.Whole.{taking_is, owning_is, taken, taken_at, owned_at, owner_some}
 

@@ -17,6 +17,7 @@ use Rattle.pm_model.specs.Objects.{commit_word, ready_count, segment_pointer_at,
 use Rattle.pm_model.specs.EntryRules.{is_among, is_segment_pointer, object_rule}
 use Rattle.pm_model.proofs.Alone.{length-words_after}
 use Rattle.pm_model.proofs.Cuts.{between-kept, between-end, cut-one_store}
+use Rattle.pm_model.proofs.Ranges.{map_same}
 use Rattle.heap_palloc.specs.Lane.{mended_lane}
 use Rattle.heap_palloc.specs.Law.{ChangesShown}
 use Rattle.heap_palloc.specs.Choice.{Choice, in_page, on_new_page, in_run, choice_parts, choice_block, choice_page, choice_pages, IsThrough, MayMake}
@@ -30,7 +31,7 @@ use Rattle.txn_object.proofs.Places.{places_up_to, all_places, places_next}
 use Rattle.txn_object.proofs.Rule.{state_ok, commit_ok, pointer_rule, rule_from}
 use Rattle.txn_object.proofs.Runs.{set_words, set_in_row, row-stop}
 use Rattle.txn_object.proofs.Walk.{words_at}
-use Rattle.txn_object.proofs.Frames.{map_same, pointer_same, segment_same, places_up_to_same, segment_pointer-same, place_cases}
+use Rattle.txn_object.proofs.Frames.{pointer_same, segment_same, places_up_to_same, segment_pointer-same, place_cases}
 use Rattle.txn_object.proofs.Entering.{words_at-same}
 use Rattle.txn_object.proofs.Taken.{StandsOn, taken}
 use Rattle.txn_object.proofs.Readying.{SameButSegment, zero-out, same_heap, segment_in, segment_behind, readied, readied_is_set, readied_count, readied_zero, readied_same}
