@@ -23,9 +23,9 @@ use Rattle.stage_object.specs.Object.{entries_from, entries_in}
 use Rattle.stage_object.proofs.EntryWords.{entries_from-stop, entries_from-next}
 use Rattle.engine_core.specs.LogicalState.{greatest}
 use Rattle.engine_core.specs.ImageRules.{KeepsEntryRules}
-use Rattle.pm_model.specs.Needed.{needed_stores, needed_parts, Stores}
-use Rattle.engine_core.specs.Opening.{Mending, parts_of, undo_entry, undo_part, past_created, last_mending, undo_mending, close_mending, clear_mending, mendings, opening_parts, recovered}
-use Rattle.engine_core.specs.Mended.{AreMended, IsMending, IsTaken, cleared_part, mended_plan, mended_words}
+use Rattle.pm_model.specs.Needed.{needed_stores, needed_parts, Stores, Mending, after_mending}
+use Rattle.engine_core.specs.Opening.{parts_of, undo_entry, undo_part, past_created, last_mending, undo_mending, close_mending, clear_mending, mendings, opening_parts, recovered}
+use Rattle.engine_core.specs.Mended.{AreMended, IsMending, IsTaken, cleared_part, mended_plan}
 use Rattle.engine_core.proofs.Greatest.{state, commit, entry}
 use Rattle.engine_core.proofs.ImageRules.{IsEntered, entered, entry-row}
 use Rattle.pm_model.proofs.NeededStores.{stores-append, stores-map, needed-whole, after-written}
@@ -353,9 +353,8 @@ needed-pushed (x ∷ needed) left after count some is len ends =
 pub opening-may : (old : List ℕ) (mending : Mending) (place : ℕ) (words : List ℕ) → drop place mendings ≡ mending ∷ drop (place + 1) mendings → IsOpening old (drop place mendings) words → IsMending mending words
 opening-may old mending place words is opening = record { plan = opening-first old mending (drop (place + 1) mendings) words (subst (λ (ms : List Mending). IsOpening old ms words) is opening) }
 
-pub opening-goes : (old : List ℕ) (mending : Mending) (place : ℕ) (words next : List ℕ) → drop place mendings ≡ mending ∷ drop (place + 1) mendings → next ≡ mended_words mending words → IsOpening old (drop place mendings) words
+pub opening-goes : (old : List ℕ) (mending : Mending) (place : ℕ) (words next : List ℕ) → drop place mendings ≡ mending ∷ drop (place + 1) mendings → next ≡ after_mending mending words → IsOpening old (drop place mendings) words
     → IsOpening old (drop (place + 1) mendings) next
-unfolding mended_words
 opening-goes old mending place words next is same opening = subst (λ (ws : List ℕ). IsOpening old (drop (place + 1) mendings) ws) (sym same)
     (opening-next old mending (drop (place + 1) mendings) words (subst (λ (ms : List Mending). IsOpening old ms words) is opening))
 
@@ -372,8 +371,8 @@ may-mend mending d left rests is plan =
     (may_play-plan 0 parts d.cached (at_rest d.cached) is.plan (record { cached = refl; durable = refl; flushed = λ w. refl })))
 
 pub mend-rests : (mending : Mending) (d : Device) (left : List Action) (count : ℕ) → count ≡ length left → d ≡ at_rest d.cached → IsMending mending d.cached → left ≡ mended_plan mending d.cached
-    → run 0 (take count left) d ≡ at_rest (mended_words mending d.cached)
-unfolding mended_plan mended_words
+    → run 0 (take count left) d ≡ at_rest (after_mending mending d.cached)
+unfolding mended_plan
 mend-rests mending d left count len rests is plan =
     let parts = needed_parts d.cached (mending d.cached) in
     ap (λ (xs : List Action). run 0 xs d) (take_all count left (omega (arith, len)) ∙ plan) ∙ ap (λ (e : Device). run 0 (plan_of parts) e) rests ∙ plan-rests d.cached parts is.plan

@@ -9,9 +9,9 @@ ghost use Rattle.stage_object.specs.Object.{entries_in};
 ghost use Rattle.engine_core.specs.Stage.{high_at};
 ghost use Rattle.engine_core.specs.LogicalState.{commit_count, of_open, past_entry};
 ghost use Rattle.engine_core.specs.ImageRules.{KeepsEntryRules};
-ghost use Rattle.pm_model.specs.Needed.{needed_stores, needed_parts};
+ghost use Rattle.pm_model.specs.Needed.{needed_stores, needed_parts, after_mending};
 ghost use Rattle.engine_core.specs.Opening.{is_open, last_mending, undo_mending, close_mending, clear_mending, undo_entry, undo_part, past_created, recovered, mendings};
-ghost use Rattle.engine_core.specs.Mended.{mending_of, mended_plan, mended_words, cleared_part, AreMended, IsMending, IsOfObject, IsTaken};
+ghost use Rattle.engine_core.specs.Mended.{mending_of, mended_plan, cleared_part, AreMended, IsMending, IsOfObject, IsTaken};
 
 use crate::layout::{born, ended, high};
 use pm_model::{
@@ -82,7 +82,7 @@ fn mend<M: Memory>(alloc: Global, memory: &mut M, mending: Mending) -> Result<()
     requires rules { KeepsEntryRules (M.device memory.old).cached }
     requires object { IsOfObject mending }
     requires plan { IsMending (mending_of mending) (M.device memory.old).cached }
-    ensures { IfOk result (λ _. M.device memory.new ≡ at_rest (mended_words (mending_of mending) (M.device memory.old).cached)) }
+    ensures { IfOk result (λ _. M.device memory.new ≡ at_rest (after_mending (mending_of mending) (M.device memory.old).cached)) }
 {
     let mut plan = plan_mending(alloc, memory, mending)?;
     let count = plan.len();
