@@ -17,28 +17,14 @@ use Rattle.heap_palloc.specs.Index.{HeapIndex, IsIndexOf}
 use Rattle.heap_palloc.specs.Law.{Allocates, IsOwnerPlace}
 use Rattle.heap_palloc.proofs.Choices.{choice_plan, choice_allocates}
 use Rattle.heap_palloc.proofs.Dests.{dest_place}
-use Rattle.heap_palloc.proofs.LiveBlocks.{SameHeap, inside_from, is_inside-same, is_small_page-same}
-use Rattle.heap_palloc.proofs.Reindex.{runs_of, runs_kept}
-use Rattle.heap_palloc.proofs.Rooms.{free-same, room-same, rooms_kept}
+use Rattle.heap_palloc.proofs.LiveBlocks.{SameHeap}
 use Rattle.heap_palloc.proofs.RulesKept.{choice_rules}
 use Rattle.heap_palloc.proofs.Settled.{gained_live}
+use Rattle.heap_palloc.proofs.SameHeaps.{index_kept}
 use Rattle.shown_state.specs.Mending.{fill_from}
 use Rattle.catalog.specs.Creation.{Creation, MayCreate, new_block, table_record, publishing_parts, creation_parts}
 use Rattle.catalog.proofs.Filling.{length-table_record}
 use Rattle.catalog.proofs.Filled.{filled-out, filled-part}
-
--- an index stands for words with the same heap
-pub index_kept : (old new : List ℕ) (index : HeapIndex) → SameHeap old new → IsIndexOf old index → IsIndexOf new index
-index_kept old new index same is =
-    let inside = inside_from old new (λ page. (same.pages page).descriptor) in
-    let runs = runs_kept old new same.size index.free (runs_of old index is) (λ page. free-same old new page (is_inside-same old new inside page) (same.pages page).descriptor) in
-    record {
-      well_formed = runs.well_formed;
-      pages = runs.pages;
-      runs = runs.each;
-      rooms = λ class lt. is.rooms class lt ∙ rooms_kept old new class same.size
-          (λ page. room-same old new page class (is_small_page-same old new inside page (same.pages page).descriptor) (same.pages page).descriptor (same.pages page).bitmap);
-    }
 
 module _ (base : List ℕ) (whole : length base % 32768 ≡ 0) (some : 32768 ≤ length base) (rules : KeepsHeapRules base) (c : Creation) (may : MayCreate base c) where
   -- the words once the block is allocated

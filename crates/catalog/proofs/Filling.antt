@@ -14,8 +14,7 @@ use Rattle.shown_state.specs.Packed.{packed_word}
 use Rattle.catalog.specs.Creation.{column_record, head_record, table_record}
 use Rattle.pm_model.specs.Plans.{lines_of, part_actions, part_end}
 use Rattle.pm_model.specs.declared.action.Action.TheVariants.{Flush, Fence}
-use Rattle.pm_model.proofs.Lines.{length-lines_of, part_has_room}
-use Rattle.heap_palloc.proofs.Forgetting.{last_part}
+use Rattle.pm_model.proofs.Lines.{length-lines_of, part_has_room, last_part}
 
 pub fill_from-append : (place : ℕ) (xs ys : List ℕ) → fill_from place (xs ++ ys) ≡ fill_from place xs ++ fill_from (place + length xs) ys
 fill_from-append place [] ys = ap (λ (p : ℕ). fill_from p ys) (here place)

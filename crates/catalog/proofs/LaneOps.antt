@@ -6,7 +6,7 @@ use Rattle.std.specs.List.{range_with_len}
 use Rattle.pm_model.specs.Fixed.{descriptor_at, lane_op_at}
 use Rattle.pm_model.specs.Places.{page_of, page_at}
 use Rattle.pm_model.specs.Plans.{Part, EachCut, finished, store, unless_empty}
-use Rattle.pm_model.specs.Needed.{Stores, StoresOfParts}
+use Rattle.pm_model.specs.Needed.{Stores, StoresOfParts, after_mending}
 use Rattle.pm_model.proofs.NeededStores.{cuts-written, parts-append}
 use Rattle.heap_small.specs.Bitmap.{with_bit}
 use Rattle.heap_palloc.specs.Choice.{Choice, in_page, on_new_page, in_run, choice_parts, IsThrough, MayMake}
@@ -18,7 +18,7 @@ use Rattle.heap_palloc.proofs.BigPlans.{take_pages_may}
 use Rattle.heap_palloc.proofs.GivenBack.{cleaned, cleaned_may}
 use Rattle.heap_palloc.proofs.PagePlans.{new_bitmap, new_slot_may}
 use Rattle.heap_palloc.proofs.SlotPlans.{take_slot_may}
-use Rattle.shown_state.specs.Mending.{after_mending, fill_from, slot_mending}
+use Rattle.shown_state.specs.Mending.{fill_from, slot_mending}
 use Rattle.shown_state.proofs.LaneMending.{allocating_mends}
 use Rattle.shown_state.proofs.SlotMending.{slot_step}
 use Rattle.catalog.specs.Creation.{Creation, new_block, table_record, publishing_parts, creation_parts, MayCreate}

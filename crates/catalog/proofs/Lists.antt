@@ -1,7 +1,6 @@
 -- Lists that are read one by one.
-use Rattle.std.proofs.Common.{◌≡◌, ◌≢◌, ⊎_elim, ℕ, zero, suc, ◌+◌, ◌<◌, eqb, List, [], ◌∷◌, ◌++◌, length, get_or, map, set, refl, sym, ◌∙◌, ap, subst, arith}
+use Rattle.std.proofs.Common.{◌≡◌, ◌≢◌, ⊎_elim, ℕ, ◌+◌, ◌<◌, eqb, List, [], ◌∷◌, ◌++◌, length, get_or, map, set, refl, sym, ◌∙◌, ap, subst, arith}
 use Rattle.std.specs.Prelude.{Option, Some, Result, Ok, Err, MatchResult, IsOk, IfSome}
-use Rattle.std.specs.List.{range_with_len}
 use Rattle.std.proofs.lemmas.Bool.{cases_eq, eq-eqb, ne_eqb}
 use Rattle.std.proofs.lemmas.List.{get_or-set_same, get_or-set_other, length-map}
 use Rattle.std.proofs.lemmas.List.FromFn.{length-range_with_len}
@@ -9,26 +8,8 @@ use Rattle.mv_model.specs.declared.shape.Kind.{Kind}
 use Rattle.mv_model.specs.declared.shape.Kind.TheVariants as kind
 use Rattle.mv_model.specs.declared.shape.Column.{Column}
 use Rattle.pm_model.specs.Places.{below}
+use Rattle.pm_model.proofs.Ranges.{below_more}
 use Rattle.shown_state.specs.LogicalState.{kind_of}
-
-range_more : (a n : ℕ) → range_with_len a (suc n) ≡ range_with_len a n ++ (a + n) ∷ []
-range_more a zero = ap (λ (x : ℕ). x ∷ []) (here a)
-  where
-    here : (m : ℕ) → m ≡ m + 0
-    here m = omega arith
-range_more a (suc n) = ap (λ (xs : List ℕ). a ∷ xs) (range_more (a + 1) n ∙ ap (λ (x : ℕ). range_with_len (a + 1) n ++ x ∷ []) (there a n))
-  where
-    there : (m k : ℕ) → m + 1 + k ≡ m + suc k
-    there m k = omega arith
-
-below_next : (n : ℕ) → below (n + 1) ≡ below n ++ n ∷ []
-below_next n = ap below (one n) ∙ range_more 0 n ∙ ap (λ (x : ℕ). below n ++ x ∷ []) (none n)
-  where
-    one : (m : ℕ) → m + 1 ≡ suc m
-    one m = omega arith
-
-    none : (m : ℕ) → 0 + m ≡ m
-    none m = omega arith
 
 map_last : {X Y : Type 0} (f : X → Y) (xs : List X) (x : X) → map f (xs ++ x ∷ []) ≡ map f xs ++ f x ∷ []
 map_last f [] x = refl
@@ -36,7 +17,7 @@ map_last f (y ∷ xs) x = ap (λ zs. f y ∷ zs) (map_last f xs x)
 
 -- one more
 pub map_next : {X : Type 0} (f : ℕ → X) (n : ℕ) → map f (below (n + 1)) ≡ map f (below n) ++ f n ∷ []
-map_next f n = ap (map f) (below_next n) ∙ map_last f (below n) n
+map_next f n = ap (map f) (below_more n) ∙ map_last f (below n) n
 
 pub mapped_next : {X : Type 0} (f : ℕ → X) (g : ℕ → ℕ) (n : ℕ) → map f (map g (below (n + 1))) ≡ map f (map g (below n)) ++ f (g n) ∷ []
 mapped_next f g n = ap (map f) (map_next g n) ∙ map_last f (map g (below n)) (g n)

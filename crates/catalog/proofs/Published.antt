@@ -9,6 +9,7 @@ use Rattle.pm_model.specs.Tables.{table_count, table_block, columns_of, is_text}
 use Rattle.pm_model.specs.EntryRules.{KeepsEntryRules}
 use Rattle.pm_model.specs.Owners.{OwnersAreApart}
 use Rattle.pm_model.proofs.OwnedBlocks.{table_live}
+use Rattle.pm_model.proofs.Ranges.{map_same}
 use Rattle.heap_palloc.specs.Choice.{choice_page, choice_pages}
 use Rattle.heap_palloc.specs.Law.{IsElsewhere}
 use Rattle.shown_state.specs.LogicalState.{name_at, column_of, kind_of}
@@ -23,24 +24,8 @@ use Rattle.catalog.proofs.ReadBack.{name_bytes, table_name_back, columns_back}
 use Rattle.catalog.proofs.Surviving.{block_high, fixed_elsewhere, lane_low}
 
 -- numbers below one that two functions don't tell apart
-map_same : {X : Type 0} (f g : ℕ → X) (a n : ℕ) → ((k : ℕ) → k < n → f (a + k) ≡ g (a + k)) → map f (range_with_len a n) ≡ map g (range_with_len a n)
-map_same f g a zero each = refl
-map_same {X} f g a (suc n) each =
-    let first : f a ≡ g a = ap f (here a) ∙ each 0 (omega arith) ∙ ap g (sym (here a)) in
-    let rest = map_same f g (a + 1) n (λ k lt. ap f (there a k) ∙ each (suc k) (omega (arith, lt)) ∙ ap g (sym (there a k))) in
-    ap (λ (x : X). x ∷ map f (range_with_len (a + 1) n)) first ∙ ap (λ (xs : List X). g a ∷ xs) rest
-  where
-    here : (p : ℕ) → p ≡ p + 0
-    here p = omega arith
-
-    there : (p k : ℕ) → p + 1 + k ≡ p + suc k
-    there p k = omega arith
-
 pub same_below : {X : Type 0} (f g : ℕ → X) (n : ℕ) → ((k : ℕ) → k < n → f k ≡ g k) → map f (below n) ≡ map g (below n)
-same_below f g n each = map_same f g 0 n (λ k lt. ap f (none k) ∙ each k lt ∙ ap g (sym (none k)))
-  where
-    none : (k : ℕ) → 0 + k ≡ k
-    none k = omega arith
+same_below f g n each = map_same f g 0 n (λ k le lt. each k (omega (arith, lt)))
 
 mapped_below : {X : Type 0} (f g : ℕ → X) (h : ℕ → ℕ) (a n : ℕ) → ((k : ℕ) → k < n → f (h (a + k)) ≡ g (h (a + k))) → map f (map h (range_with_len a n)) ≡ map g (map h (range_with_len a n))
 mapped_below f g h a zero each = refl

@@ -8,8 +8,7 @@ use Rattle.pm_model.specs.Fresh.{fresh_words}
 use Rattle.pm_model.specs.Plans.{Part, IsPlan, finished, plan_of}
 use Rattle.heap_palloc.specs.Calls.{IsSettled, KeepsHeapRules}
 use Rattle.heap_palloc.specs.Index.{HeapIndex, IsIndexOf}
-use Rattle.heap_palloc.proofs.LiveBlocks.{SameHeap, inside_from, is_inside-same}
-use Rattle.heap_palloc.proofs.RulesKept.{rules_from, rules_at, kept_same}
+use Rattle.heap_palloc.proofs.SameHeaps.{rules_same}
 use Rattle.shown_state.proofs.FormattedImage.{formatted_is_sound}
 use Rattle.catalog.specs.Entries.{CatalogTable, CatalogState, KeepsTableRules}
 use Rattle.catalog.specs.Creation.{Creation, creation_parts}
@@ -19,12 +18,6 @@ use Rattle.catalog.proofs.Creating.{taken_rules, same_heap, published_same, ends
 
 pub fresh_keeps : (segments : ℕ) → 0 < segments → KeepsTableRules (fresh_words segments)
 fresh_keeps segments some = sound_keeps (fresh_words segments) (formatted_is_sound segments some)
-
--- the heap's rules look at its words alone
-rules_same : (old new : List ℕ) → SameHeap old new → KeepsHeapRules old → KeepsHeapRules new
-rules_same old new same rules =
-    let inside = inside_from old new (λ page. (same.pages page).descriptor) in
-    rules_from new (λ page lt. kept_same old new page (is_inside-same old new inside page) (same.pages page).descriptor (same.pages page).bitmap (rules_at old rules page (omega (arith, lt, same.size))))
 
 module _ (d : Device) (whole : IsWhole d) (index : HeapIndex) (settled : IsSettled d index) where
   pub tested_may : (tables : List CatalogTable) (count : ℕ) → count ≡ length tables → count ≤ 32 → get_or d.cached 576 0 ≡ 0 → get_or d.cached 515 0 ≡ count → (count < 32 → get_or d.cached (520 + count) 0 ≡ 0) → MayPlanCreation d.cached index tables 0

@@ -6,10 +6,11 @@ use Rattle.pm_model.specs.Pointer.{pointer_word}
 use Rattle.pm_model.specs.Plans.{finished}
 use Rattle.pm_model.specs.Blocks.{live_blocks}
 use Rattle.pm_model.specs.Tables.{table_count}
+use Rattle.pm_model.specs.Needed.{after_mending}
 use Rattle.heap_palloc.specs.Calls.{KeepsHeapRules}
 use Rattle.heap_palloc.specs.Choice.{choice_page, choice_pages}
 use Rattle.heap_palloc.specs.Law.{IsElsewhere}
-use Rattle.shown_state.specs.Mending.{after_mending, lane_mending, slot_mending}
+use Rattle.shown_state.specs.Mending.{lane_mending, slot_mending}
 use Rattle.catalog.specs.Creation.{Creation, MayCreate, creation_parts, new_block, table_record}
 use Rattle.catalog.specs.Entries.{CatalogTable}
 

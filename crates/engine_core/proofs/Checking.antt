@@ -1,6 +1,6 @@
 -- Checks that are tried one after the other: the first that fails.
-use Rattle.std.proofs.Common.{◌≡◌, ⊎_elim, ℕ, suc, ◌+◌, ◌-◌, ◌<◌, ◌≤◌, Bool, true, false, not, cond, eqb, leb, get_or, List, [], ◌∷◌, ◌++◌, map, refl, sym, ◌∙◌, ap, arith}
-use Rattle.std.specs.Prelude.{Option, None, Some, filter, find, option_map}
+use Rattle.std.proofs.Common.{◌≡◌, ⊎_elim, ℕ, suc, ◌+◌, ◌-◌, ◌<◌, ◌≤◌, Bool, true, false, cond, eqb, leb, get_or, List, [], ◌∷◌, ◌++◌, map, refl, sym, ◌∙◌, ap, arith}
+use Rattle.std.specs.Prelude.{Option, None, Some, filter}
 use Rattle.std.specs.List.{flat_map, range_with_len}
 use Rattle.std.proofs.lemmas.Bool.{cases_Bool, cond-true, cond-false, eq-eqb, ne_eqb, leb-true, le-leb, lt-leb}
 use Rattle.std.proofs.lemmas.List.Concat.{flat_map_single}
@@ -10,29 +10,7 @@ use Rattle.pm_model.specs.Places.{below, page_count}
 use Rattle.engine_core.specs.Stage.{high_at}
 use Rattle.engine_core.specs.ImageRules.{last_rule, object_rule, object_checks, entry_rule, entry_checks, is_entry_word, reserved_rule, is_reserved_page, stamp_rule, row_checks}
 use Rattle.pm_model.specs.Checks.{Check, check, first_failing}
-
-pub failing-here : (c : Check) (cs : List Check) → c.holds ≡ false → first_failing (c ∷ cs) ≡ Some c.place
-failing-here c cs fails = ap (λ (b : Bool). option_map (λ (d : Check). d.place) (cond (not b) (Some c) (find (λ d. not d.holds) cs))) fails
-
-pub failing-later : (c : Check) (cs : List Check) → c.holds ≡ true → first_failing (c ∷ cs) ≡ first_failing cs
-failing-later c cs holds = ap (λ (b : Bool). option_map (λ (d : Check). d.place) (cond (not b) (Some c) (find (λ d. not d.holds) cs))) holds
-
-pub failing-some : (xs ys : List Check) (place : ℕ) → first_failing xs ≡ Some place → first_failing (xs ++ ys) ≡ Some place
-failing-some [] ys place is = absurd (cc)
-failing-some (c ∷ xs) ys place is = ⊎_elim
-    (λ holds. failing-later c (xs ++ ys) holds ∙ failing-some xs ys place (sym (failing-later c xs holds) ∙ is))
-    (λ fails. failing-here c (xs ++ ys) fails ∙ sym (failing-here c xs fails) ∙ is)
-    (cases_Bool c.holds)
-
-pub failing-none : (xs ys : List Check) → first_failing xs ≡ None → first_failing (xs ++ ys) ≡ first_failing ys
-failing-none [] ys is = refl
-failing-none (c ∷ xs) ys is = ⊎_elim
-    (λ holds. failing-later c (xs ++ ys) holds ∙ failing-none xs ys (sym (failing-later c xs holds) ∙ is))
-    (λ fails. let bad = sym (failing-here c xs fails) ∙ is in absurd (none-some c.place bad))
-    (cases_Bool c.holds)
-  where
-    none-some : (place : ℕ) → Some place ≡ None → ⊥
-    none-some place e = cc
+use Rattle.pm_model.proofs.Faults.{fails, passes, fail-first, pass-all}
 
 -- ── checks of each number below one ──
 
@@ -55,11 +33,11 @@ left-end f i n le = let e : n - i ≡ 0 = omega (arith, le) in ap (λ (k : ℕ).
 module _ (f : ℕ → List Check) (i n : ℕ) (whole : Option ℕ) (left : whole ≡ first_failing (checks_left f i n)) where
   -- one of this number fails
   pub tried-some : (place : ℕ) → i < n → Some place ≡ first_failing (f i) → Some place ≡ whole
-  tried-some place lt is = sym (left ∙ ap first_failing (left-next f i n lt) ∙ failing-some (f i) (checks_left f (i + 1) n) place (sym is))
+  tried-some place lt is = sym (left ∙ ap first_failing (left-next f i n lt) ∙ fail-first (f i) (checks_left f (i + 1) n) place (sym is))
 
   -- none does
   pub tried-none : i < n → None ≡ first_failing (f i) → whole ≡ first_failing (checks_left f (i + 1) n)
-  tried-none lt is = left ∙ ap first_failing (left-next f i n lt) ∙ failing-none (f i) (checks_left f (i + 1) n) (sym is)
+  tried-none lt is = left ∙ ap first_failing (left-next f i n lt) ∙ pass-all (f i) (checks_left f (i + 1) n) (sym is)
 
   -- all were tried
   pub tried-all : n ≤ i → None ≡ whole
@@ -78,8 +56,8 @@ filter-flat p f (x ∷ xs) = go (p x) (filter-flat p f xs)
 -- ── the first checks of the rules ──
 
 pub last-small : (words : List ℕ) → None ≡ first_failing (last_rule words) → get_or words last_at 0 ≤ MAX_COMMITS
-last-small words none = ⊎_elim (λ holds. leb-true (get_or words last_at 0) MAX_COMMITS holds)
-    (λ fails. let bad = sym (failing-here (check last_at (leb (get_or words last_at 0) MAX_COMMITS)) [] fails) ∙ sym none in absurd (some-none last_at bad)) (cases_Bool (leb (get_or words last_at 0) MAX_COMMITS))
+last-small words none = ⊎_elim (λ within. leb-true (get_or words last_at 0) MAX_COMMITS within)
+    (λ over. let bad = sym (fails (check last_at (leb (get_or words last_at 0) MAX_COMMITS)) [] over) ∙ sym none in absurd (some-none last_at bad)) (cases_Bool (leb (get_or words last_at 0) MAX_COMMITS))
   where
     some-none : (place : ℕ) → Some place ≡ None → ⊥
     some-none place e = cc
@@ -117,8 +95,8 @@ pages-start words = ap first_failing (filter-flat is_reserved_page (λ page. che
 
 pub rows-start : (words : List ℕ) → get_or words high_at 0 ≤ 4096 → first_failing (stamp_rule words) ≡ first_failing (checks_left (row_checks words) 0 4096)
 unfolding stamp_rule
-rows-start words le = failing-later (check high_at (leb (get_or words high_at 0) 4096)) (flat_map (row_checks words) (below 4096)) (le-leb (get_or words high_at 0) 4096 le) ∙ ap first_failing (left-all (row_checks words) 4096)
+rows-start words le = passes (check high_at (leb (get_or words high_at 0) 4096)) (flat_map (row_checks words) (below 4096)) (le-leb (get_or words high_at 0) 4096 le) ∙ ap first_failing (left-all (row_checks words) 4096)
 
 pub high-fails : (words : List ℕ) → 4096 < get_or words high_at 0 → Some high_at ≡ first_failing (stamp_rule words)
 unfolding stamp_rule
-high-fails words more = sym (failing-here (check high_at (leb (get_or words high_at 0) 4096)) (flat_map (row_checks words) (below 4096)) (lt-leb (get_or words high_at 0) 4096 more))
+high-fails words more = sym (fails (check high_at (leb (get_or words high_at 0) 4096)) (flat_map (row_checks words) (below 4096)) (lt-leb (get_or words high_at 0) 4096 more))

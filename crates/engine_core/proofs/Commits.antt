@@ -13,6 +13,7 @@ use Rattle.pm_model.specs.declared.action.Action.{Action}
 use Rattle.pm_model.specs.Fixed.{last_at, state_at, commit_word_at, entry_at}
 use Rattle.pm_model.specs.Plans.{Part, one_store, words_after, plan_of, store, unless_empty, IsPart, IsPlan}
 use Rattle.pm_model.proofs.Alone.{length-words_after}
+use Rattle.pm_model.proofs.Cuts.{store_part}
 use Rattle.stage_object.specs.Object.{clear_part, entry_clears}
 use Rattle.engine_core.specs.Stage.{high_at, born_at, ended_at, value_at}
 use Rattle.engine_core.specs.StagePlans.{stamp_part, commit_late, commit_parts, close_parts}
@@ -21,7 +22,7 @@ use Rattle.engine_core.specs.Decided.{IsCommitPlan, IsDecided}
 use Rattle.engine_core.specs.LogicalState.{commit_of, commits_in, created_row, key_of, rows_from, rows_where, state_by, state_of}
 use Rattle.engine_core.proofs.Rows.{IsSameUpTo, commits_in-same, commits_in-more, rows_from-same, length-rows_from, length-commits_in, rows_where-interval, rows_where-none}
 use Rattle.engine_core.proofs.States.{creating, commit-answer, commit-next, commit-none, close-next}
-use Rattle.engine_core.proofs.Stores.{words_after-plan, get-stored, get-beside, one_store-part, get-run, get-run_beside, get-run_last, run, run-part, stores-at}
+use Rattle.engine_core.proofs.Stores.{words_after-plan, get-stored, get-beside, get-run, get-run_beside, get-run_last, run, run-part, stores-at}
 use Rattle.engine_core.proofs.Decisions.{state_with, state_without, switched, switch-same, switch-stage}
 
 unless_empty-last : (part : Part) (action : Action) → unless_empty (part ++ action ∷ []) ≡ (part ++ action ∷ []) ∷ []
@@ -228,11 +229,11 @@ module _ (words : List ℕ) (begun number rows high last : ℕ) (stage : IsStage
       let s = size in let r = within in let f = few in (
         run-part (last + 1) born_at 2048 born_is high_at (high + rows) (length words) high rows (omega (arith, s, r)) (omega (arith, s)) (λ k low above e. omega (arith, e)),
         (
-          one_store-part (length words) (commit_word_at 0) (last + 1) (omega (arith, s)),
+          store_part (length words) (commit_word_at 0) (last + 1) (omega (arith, s)),
           (
-            one_store-part (length words) last_at (last + 1) (omega (arith, s)),
+            store_part (length words) last_at (last + 1) (omega (arith, s)),
             (
-              one_store-part (length words) (state_at 0) 0 (omega (arith, s)),
+              store_part (length words) (state_at 0) 0 (omega (arith, s)),
               (
                 subst (IsPart (length words)) (sym (clear_run rows))
                     (run-part 0 (λ nth. entry_at 0 nth) 1028 entry_is (commit_word_at 0) 0 (length words) 0 rows (omega (arith, s, f)) (omega (arith, s)) (λ k low above e. omega (arith, e))),
@@ -308,7 +309,7 @@ close-decided words begun number rows stage actions none is_actions short =
     record {
       allowed = subst (λ (s : State). IsAllowed s 1 call.Commit reply.ReadOnly) (sym before) (sym (commit-none (high + 0) commits begun number last));
       parts = one_store (state_at 0) 0 ∷ [];
-      plan = (one_store-part (length words) (state_at 0) 0 (let s = stage.size in omega (arith, s)), tt);
+      plan = (store_part (length words) (state_at 0) 0 (let s = stage.size in omega (arith, s)), tt);
       plan_is = plan_is;
       state =
           ap (λ (s : State). next s 1 call.Commit reply.ReadOnly) before

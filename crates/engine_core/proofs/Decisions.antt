@@ -15,6 +15,7 @@ use Rattle.pm_model.specs.declared.action.Action.{Action}
 use Rattle.pm_model.specs.Fixed.{last_at, state_at, commit_word_at, entry_at}
 use Rattle.pm_model.specs.Plans.{one_store, words_after, plan_of, finished}
 use Rattle.pm_model.proofs.Alone.{length-words_after}
+use Rattle.pm_model.proofs.Cuts.{store_part}
 use Rattle.txn_object.specs.Entries.{entry_word}
 use Rattle.stage_object.specs.Object.{begin_parts}
 use Rattle.engine_core.specs.Stage.{high_at, born_at, ended_at, value_at}
@@ -29,7 +30,7 @@ use Rattle.engine_core.specs.declared.transactions.Transactions.{Transactions}
 use Rattle.engine_core.specs.declared.transactions.Running.{Running}
 use Rattle.engine_core.proofs.Rows.{IsSameUpTo, commits_in-same, rows_from-same, rows_from-more, length-rows_from, length-commits_in}
 use Rattle.engine_core.proofs.States.{creating, begin-answer, begin-next, insert-answer, insert-next, put-rows_from}
-use Rattle.engine_core.proofs.Stores.{words_after-plan, get-stored, get-beside, one_store-part}
+use Rattle.engine_core.proofs.Stores.{words_after-plan, get-stored, get-beside}
 
 -- a refusal, or a reading
 pub refused : (words : List ℕ) (now : Transactions) (call : Call) (given : Reply) → IsStage words now.running → IsAllowed (state_of words now) 1 call given
@@ -118,7 +119,7 @@ module _ (words : List ℕ) (begun : ℕ) (stage : IsStage words None) where
       rw is_number (record {
         allowed = rw is_snapshot (sym (begin-answer (get_or words high_at 0 + 0) commits begun ∙ ap (reply.Began (begun + 1)) count));
         parts = begin_parts 0;
-        plan = (one_store-part (length words) (state_at 0) 1 (let s = stage.size in omega (arith, s)), tt);
+        plan = (store_part (length words) (state_at 0) 1 (let s = stage.size in omega (arith, s)), tt);
         plan_is = is_actions;
         state = rw (is_snapshot, after) (begin-next (get_or words high_at 0 + 0) commits begun (begun + 1) (get_or words last_at 0) ∙ sym begin-state);
         full = tt;
@@ -218,8 +219,8 @@ module _ (words : List ℕ) (begun number rows : ℕ) (stage : IsStage words (So
         allowed = sym (insert-answer given commits begun number (get_or words last_at 0) created value (omega (arith, count, few)) (omega (arith, is_row, fewer)) ∙ ap reply.Row (sym is_row));
         parts = insert_parts rows row word;
         plan = (
-          one_store-part (length words) (entry_at 0 rows) (entry_word (created_entry row)) (let s = stage.size in omega (arith, s, few)),
-          (one_store-part (length words) (value_at row) word (let s = stage.size in omega (arith, s, fewer)), tt),
+          store_part (length words) (entry_at 0 rows) (entry_word (created_entry row)) (let s = stage.size in omega (arith, s, few)),
+          (store_part (length words) (value_at row) word (let s = stage.size in omega (arith, s, fewer)), tt),
         );
         plan_is = is_actions;
         state =

@@ -7,6 +7,7 @@ use Rattle.mv_model.specs.declared.limits.TheConstants.{MAX_COMMITS}
 use Rattle.mv_model.specs.declared.value.Value.TheVariants.{Int}
 use Rattle.mv_model.specs.State.{CreatedRow, WriteSet, all_idle}
 use Rattle.pm_model.specs.Fixed.{last_at}
+use Rattle.pm_model.proofs.Ranges.{map_same}
 use Rattle.txn_object.specs.declared.entry.EntryKind.{EntryKind}
 use Rattle.txn_object.specs.declared.entry.EntryKind.TheVariants.{Created, Ended}
 use Rattle.txn_object.specs.Entries.{entry_of}
@@ -32,13 +33,6 @@ filter-same p q first (suc count) same =
 rows-same : (p q : ℕ → Bool) → ((row : ℕ) → row < 4096 → p row ≡ q row) → rows_where p ≡ rows_where q
 unfolding rows_where
 rows-same p q same = filter-same p q 0 4096 (λ row le lt. same row (omega (arith, lt)))
-
-map-range : {X : Type 0} (f g : ℕ → X) (first count : ℕ) → ((k : ℕ) → first ≤ k → k < first + count → f k ≡ g k) → map f (range_with_len first count) ≡ map g (range_with_len first count)
-map-range f g first zero same = refl
-map-range {X} f g first (suc count) same =
-    let rest = map-range f g (first + 1) count (λ k le lt. same k (omega (arith, le)) (omega (arith, lt))) in
-    ap (λ (x : X). x ∷ map f (range_with_len (first + 1) count)) (same first (omega arith) (omega arith))
-    ∙ ap (λ (xs : List X). g first ∷ xs) rest
 
 -- every row of the table has its value
 map-rows : (old new : List ℕ) (p : ℕ → Bool) (first count : ℕ) → ((k : ℕ) → first ≤ k → k < first + count → get_or new (value_at k) 0 ≡ get_or old (value_at k) 0)
@@ -76,7 +70,7 @@ logical-same old new next count values borns ends =
     ap (λ (n : ℕ). record { tables = table_of n ∷ []; commits = commits_in new (commit_count new); begun = 0; running = all_idle }) next
     ∙ ap (λ (n : ℕ). record { tables = table_of (next_row old) ∷ []; commits = commits_in new n; begun = 0; running = all_idle }) count
     ∙ ap (λ (commits : List WriteSet). record { tables = table_of (next_row old) ∷ []; commits = commits; begun = 0; running = all_idle })
-    (map-range (commit_of new) (commit_of old) 1 (commit_count old) (λ number le lt. commit-same old new number values (λ row within. borns row number within le (omega (arith, lt))) (λ row within. ends row number within le (omega (arith, lt)))))
+    (map_same (commit_of new) (commit_of old) 1 (commit_count old) (λ number le lt. commit-same old new number values (λ row within. borns row number within le (omega (arith, lt))) (λ row within. ends row number within le (omega (arith, lt)))))
 
 -- ── what opening reaches keeps the rules of each image ──
 

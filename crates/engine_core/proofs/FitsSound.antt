@@ -17,8 +17,8 @@ use Rattle.txn_object.specs.declared.entry.EntryKind.TheVariants.{Created, Ended
 use Rattle.engine_core.specs.Stage.{high_at, born_at, ended_at}
 use Rattle.engine_core.specs.LogicalState.{commit_count, next_row, logical_state}
 use Rattle.engine_core.specs.ImageRules.{dead, entry_rules, closing_rules, KeepsEntryRules, closed_rule, closed_checks, stamp_rule, row_checks, is_born, is_ended, IsSound}
-use Rattle.pm_model.specs.Needed.{needed_stores, needed_parts, Stores}
-use Rattle.engine_core.specs.Opening.{Mending, past_created, undo_part, last_mending, undo_mending, close_mending, clear_mending, mendings, parts_of, opening_parts, recovered, opening_fault}
+use Rattle.pm_model.specs.Needed.{needed_stores, needed_parts, Stores, Mending}
+use Rattle.engine_core.specs.Opening.{past_created, undo_part, last_mending, undo_mending, close_mending, clear_mending, mendings, parts_of, opening_parts, recovered, opening_fault}
 use Rattle.engine_core.specs.Recoverable.{IsRecoverable, IsUndecided, IsBornBy, IsEndedBy, Fits}
 use Rattle.engine_core.proofs.Greatest.{state, commit, entry, open_past, idle_is, last-count, count-le, high-next, next-le, high-used}
 use Rattle.engine_core.proofs.ImageRules.{entered, each-flat, all-flat, each-check, all-checks}

@@ -1,9 +1,10 @@
 -- A history that goes on by one entry, and one whose last entry is answered.
-use Rattle.std.proofs.Common.{◌≡◌, ℕ, zero, suc, ◌+◌, ◌==◌, Bool, true, false, cond, List, [], ◌∷◌, ◌++◌, length, map, refl, ap, sym, subst, ◌∙◌, append-nil, length-append, arith}
+use Rattle.std.proofs.Common.{◌≡◌, ℕ, ◌+◌, ◌==◌, Bool, true, false, cond, List, [], ◌∷◌, ◌++◌, length, map, refl, ap, sym, subst, ◌∙◌, append-nil, length-append, arith}
 use Rattle.std.specs.List.{range_with_len}
 use Rattle.std.proofs.lemmas.List.Elements.{filter-append}
 use Rattle.std.proofs.lemmas.List.{map-append}
 use Rattle.std.proofs.lemmas.Bool.Decides.{nat_tests}
+use Rattle.pm_model.proofs.Ranges.{range_more}
 use Rattle.mv_model.specs.declared.reply.Entry.{Entry}
 use Rattle.mv_model.specs.State.{State}
 use Rattle.mv_model.specs.Next.{next}
@@ -23,13 +24,6 @@ follows-more state [] one follows is_session allowed = (is_session, allowed, tt)
 follows-more state (entry ∷ entries) one follows is_session allowed =
     (follows.0, follows.1, follows-more (next state entry.session entry.call entry.reply) entries one follows.2 is_session allowed)
 
--- one more number
-range-more : (a n : ℕ) → range_with_len a (suc n) ≡ range_with_len a n ++ (a + n) ∷ []
-range-more a zero = ap (λ (x : ℕ). x ∷ []) (omega arith)
-range-more a (suc n) =
-    let same : a + 1 + n ≡ a + suc n = omega arith in
-    ap (λ (xs : List ℕ). a ∷ xs) (subst (λ (x : ℕ). range_with_len (a + 1) (suc n) ≡ range_with_len (a + 1) n ++ x ∷ []) same (range-more (a + 1) n))
-
 -- the entries of a session, with one more entry
 entries_of-more : (session : ℕ) (history : List Entry) (one : Entry)
     → entries_of session (history ++ one ∷ []) ≡ entries_of session history ++ cond (one.session == session) (one ∷ []) []
@@ -39,9 +33,9 @@ numbered-own : (entries : List Entry) (one : Entry) → one.ordinal ≡ length e
     → map (λ entry. entry.ordinal) entries ≡ range_with_len 1 (length entries)
     → map (λ entry. entry.ordinal) (entries ++ one ∷ []) ≡ range_with_len 1 (length (entries ++ one ∷ []))
 numbered-own entries one is_next numbered =
-    let size : length (entries ++ one ∷ []) ≡ suc (length entries) = grind (arith, length-append) in
+    let size : length (entries ++ one ∷ []) ≡ length entries + 1 = grind (arith, length-append) in
     let last : 1 + length entries ≡ one.ordinal = omega (arith, is_next) in
-    rw (size, range-more 1 (length entries), last, map-append (λ (entry : Entry). entry.ordinal) entries (one ∷ []), numbered) refl
+    rw (size, range_more 1 (length entries), last, map-append (λ (entry : Entry). entry.ordinal) entries (one ∷ []), numbered) refl
 
 numbered-step : (session : ℕ) (history : List Entry) (one : Entry) (b : Bool) → (b ≡ true → entries_of session history ≡ history)
     → one.ordinal ≡ length history + 1

@@ -4,10 +4,10 @@ use Rattle.std.specs.List.{flat_map, range_with_len}
 use Rattle.std.proofs.lemmas.Bool.{cases_Bool, cond-true, cond-false, and_from, and_parts, eqb-true, not-true, eq-eqb, ne_eqb, eqb-false}
 use Rattle.std.specs.Prelude.{reverse}
 use Rattle.std.proofs.lemmas.List.{drop_more, drop_all, take_all, append-nil, length-append, length-map}
+use Rattle.std.proofs.lemmas.Grind.{flat_map-append}
 use Rattle.pm_model.specs.declared.place.Place.{Place}
 use Rattle.pm_model.specs.Device.{Device}
 use Rattle.engine_core.specs.LogicalState.{commit_count}
-use Rattle.engine_core.proofs.Stores.{length-lines_of}
 use Rattle.engine_core.proofs.OpeningCuts.{plan-rests}
 use Rattle.pm_model.specs.declared.action.Action.{Action}
 use Rattle.pm_model.specs.declared.action.Action.TheVariants.{Store, Flush, Fence, Punch}
@@ -23,12 +23,13 @@ use Rattle.stage_object.specs.Object.{entries_from, entries_in}
 use Rattle.stage_object.proofs.EntryWords.{entries_from-stop, entries_from-next}
 use Rattle.engine_core.specs.LogicalState.{greatest}
 use Rattle.engine_core.specs.ImageRules.{KeepsEntryRules}
-use Rattle.pm_model.specs.Needed.{needed_stores, needed_parts, Stores}
-use Rattle.engine_core.specs.Opening.{Mending, parts_of, undo_entry, undo_part, past_created, last_mending, undo_mending, close_mending, clear_mending, mendings, opening_parts, recovered}
-use Rattle.engine_core.specs.Mended.{AreMended, IsMending, IsTaken, cleared_part, mended_plan, mended_words}
+use Rattle.pm_model.specs.Needed.{needed_stores, needed_parts, Stores, Mending, after_mending}
+use Rattle.engine_core.specs.Opening.{parts_of, undo_entry, undo_part, past_created, last_mending, undo_mending, close_mending, clear_mending, mendings, opening_parts, recovered}
+use Rattle.engine_core.specs.Mended.{AreMended, IsMending, IsTaken, cleared_part, mended_plan}
 use Rattle.engine_core.proofs.Greatest.{state, commit, entry}
 use Rattle.engine_core.proofs.ImageRules.{IsEntered, entered, entry-row}
 use Rattle.pm_model.proofs.NeededStores.{stores-append, stores-map, needed-whole, after-written}
+use Rattle.pm_model.proofs.Lines.{length-lines_of}
 use Rattle.engine_core.proofs.OpeningStores.{Opens}
 use Rattle.engine_core.proofs.OpeningTrace.{IsReached}
 use Rattle.engine_core.proofs.OpeningRounds.{opening-opens}
@@ -191,10 +192,6 @@ plan-one words part = ap plan_of (sym (append-nil (unless_empty (needed_stores w
 needed-idle : (words : List ℕ) (object : ℕ) → get_or words (state_at object) 0 ≡ 1 → needed_parts words (one_store (state_at object) 0 ∷ []) ≡ one_store (state_at object) 0 ∷ []
 needed-idle words object opened = ap (λ (part : Part). unless_empty part ++ []) (cond-false (eqb (get_or words (state_at object) 0) 0) [] (one_store (state_at object) 0) (ne_eqb (get_or words (state_at object) 0) 0 (λ e. omega (arith, e, opened))))
 
-plan-append : (xs ys : List Part) → plan_of (xs ++ ys) ≡ plan_of xs ++ plan_of ys
-plan-append [] ys = refl
-plan-append (x ∷ xs) ys = ap (λ (l : List Action). part_actions x ++ l) (plan-append xs ys) ∙ sym (append_assoc (part_actions x) (plan_of xs) (plan_of ys))
-
 pub plan-undo : (words : List ℕ) (object : ℕ) → IsEntered words → object < 16 → state words object ≡ 1 → commit words object ≡ 0
     → plan_of (unless_empty (needed_stores words (undo_part words object))) ++ part_actions (one_store (state_at object) 0) ≡ plan_of (needed_parts words (undo_mending object words))
 plan-undo words object is number opened none =
@@ -204,7 +201,7 @@ plan-undo words object is number opened none =
     let whole = needed-whole (λ place value. (place ≡ 517) ⊎ ((2048 ≤ place) × (place < 10240))) words (undo_part words object) (undo-in words object is number opened) in
     let idle = needed-idle (words_after needed words) object (state-after words object needed is number opened whole) in
     ap (λ (l : List Action). plan_of (unless_empty needed) ++ l) (sym (append-nil (part_actions (one_store (state_at object) 0))))
-    ∙ sym (plan-append (unless_empty needed) (one_store (state_at object) 0 ∷ []))
+    ∙ sym (flat_map-append part_actions (unless_empty needed) (one_store (state_at object) 0 ∷ []))
     ∙ ap (λ (ps : List Part). plan_of (unless_empty needed ++ ps)) (sym idle)
     ∙ ap (λ (ps : List Part). plan_of (needed_parts words ps)) (sym mends)
 
@@ -356,9 +353,8 @@ needed-pushed (x ∷ needed) left after count some is len ends =
 pub opening-may : (old : List ℕ) (mending : Mending) (place : ℕ) (words : List ℕ) → drop place mendings ≡ mending ∷ drop (place + 1) mendings → IsOpening old (drop place mendings) words → IsMending mending words
 opening-may old mending place words is opening = record { plan = opening-first old mending (drop (place + 1) mendings) words (subst (λ (ms : List Mending). IsOpening old ms words) is opening) }
 
-pub opening-goes : (old : List ℕ) (mending : Mending) (place : ℕ) (words next : List ℕ) → drop place mendings ≡ mending ∷ drop (place + 1) mendings → next ≡ mended_words mending words → IsOpening old (drop place mendings) words
+pub opening-goes : (old : List ℕ) (mending : Mending) (place : ℕ) (words next : List ℕ) → drop place mendings ≡ mending ∷ drop (place + 1) mendings → next ≡ after_mending mending words → IsOpening old (drop place mendings) words
     → IsOpening old (drop (place + 1) mendings) next
-unfolding mended_words
 opening-goes old mending place words next is same opening = subst (λ (ws : List ℕ). IsOpening old (drop (place + 1) mendings) ws) (sym same)
     (opening-next old mending (drop (place + 1) mendings) words (subst (λ (ms : List Mending). IsOpening old ms words) is opening))
 
@@ -375,8 +371,8 @@ may-mend mending d left rests is plan =
     (may_play-plan 0 parts d.cached (at_rest d.cached) is.plan (record { cached = refl; durable = refl; flushed = λ w. refl })))
 
 pub mend-rests : (mending : Mending) (d : Device) (left : List Action) (count : ℕ) → count ≡ length left → d ≡ at_rest d.cached → IsMending mending d.cached → left ≡ mended_plan mending d.cached
-    → run 0 (take count left) d ≡ at_rest (mended_words mending d.cached)
-unfolding mended_plan mended_words
+    → run 0 (take count left) d ≡ at_rest (after_mending mending d.cached)
+unfolding mended_plan
 mend-rests mending d left count len rests is plan =
     let parts = needed_parts d.cached (mending d.cached) in
     ap (λ (xs : List Action). run 0 xs d) (take_all count left (omega (arith, len)) ∙ plan) ∙ ap (λ (e : Device). run 0 (plan_of parts) e) rests ∙ plan-rests d.cached parts is.plan

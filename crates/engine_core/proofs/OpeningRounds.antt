@@ -7,10 +7,10 @@ use Rattle.pm_model.specs.Places.{below}
 use Rattle.pm_model.specs.Device.{IsBetween}
 use Rattle.pm_model.specs.Plans.{Part, one_store, stores, words_after, footprint, IsPlan, EachCut}
 use Rattle.pm_model.proofs.Cuts.{between-end}
-use Rattle.engine_core.specs.Opening.{Mending, last_mending, undo_mending, close_mending, clear_mending, mendings, opening_parts, recovered}
+use Rattle.engine_core.specs.Opening.{last_mending, undo_mending, close_mending, clear_mending, mendings, opening_parts, recovered}
 use Rattle.engine_core.proofs.Greatest.{state, commit, entry}
 use Rattle.engine_core.proofs.ImageRules.{IsEntered}
-use Rattle.pm_model.specs.Needed.{Stores}
+use Rattle.pm_model.specs.Needed.{Stores, Mending}
 use Rattle.pm_model.proofs.NeededStores.{stores-append, stores-map, after-written, cut-written}
 use Rattle.engine_core.proofs.OpeningStores.{IsStep, Opens, opens-none, opens-next, opens-round}
 use Rattle.engine_core.proofs.OpeningTrace.{IsReached, IsAsBefore, IsIdleNow, IsSettled, SameObject, SameBut, reach-none, reach-objects, stays-beside, undone-beside, settled-beside}

@@ -2,11 +2,11 @@
 use Rattle.std.proofs.Common.{◌≡◌, ℕ, zero, suc, ◌+◌, ◌<◌, List, [], ◌∷◌, ◌++◌, length, map, sym, subst, arith}
 use Rattle.std.specs.List.{range_with_len}
 use Rattle.pm_model.specs.Plans.{Part, finished, IsPlan, EachCut}
-use Rattle.pm_model.specs.Needed.{needed_parts, AllStores}
+use Rattle.pm_model.specs.Needed.{needed_parts, AllStores, Mending}
 use Rattle.pm_model.proofs.Alone.{IsPlan-size}
 use Rattle.pm_model.proofs.Cuts.{finished-append, length-finished, plan-append, each_cut-append}
 use Rattle.pm_model.proofs.NeededStores.{needed-finished, needed-cuts, needed-plan}
-use Rattle.engine_core.specs.Opening.{Mending, parts_of}
+use Rattle.engine_core.specs.Opening.{parts_of}
 
 -- The mendings play a plan, each cut of which has P, and leave words that have R.
 pub record Opens (P R : List ℕ → Type 0) (mendings : List Mending) (words : List ℕ) : Type 0 where

@@ -13,7 +13,7 @@ use Rattle.pm_model.specs.Fixed.{last_at, commit_word_at}
 use Rattle.pm_model.specs.Plans.{Part, Play, IsPlaying, store, one_store, words_after, footprint, part_actions, plan_of, settled, reached, finished, IsPlan, lines_of, part_end}
 use Rattle.pm_model.proofs.Alone.{length-words_after}
 use Rattle.pm_model.proofs.PlanLaw.{footprint-append, plan_begins, plan_cached, plan_durable, plan_goes_on, words_after-kept, footprint-take}
-use Rattle.stage_object.proofs.Clears.{length-part_actions}
+use Rattle.pm_model.proofs.Lines.{length-part_actions}
 use Rattle.engine_core.specs.CoreState.{IsAtFence}
 use Rattle.engine_core.specs.Decided.{IsCommitPlan}
 use Rattle.engine_core.specs.Kept.{IsCommitting}

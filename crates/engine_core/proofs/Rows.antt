@@ -11,30 +11,11 @@ use Rattle.std.proofs.lemmas.Bool.Decides.{nat_tests}
 use Rattle.std.proofs.lemmas.Map.Views.{any-filter_same}
 use Rattle.std.proofs.lemmas.List.{map-append}
 use Rattle.std.proofs.lemmas.List.Folds.{list_any-append}
+use Rattle.pm_model.proofs.Ranges.{range_append, map_same}
 use Rattle.engine_core.specs.Stage.{born_at, ended_at, value_at}
 use Rattle.engine_core.specs.LogicalState.{commit_of, commits_in, created_row, key_of, integer_of, rows_from, rows_where, within}
 
 -- ── ranges ──
-
-pub range-append : (first m n : ℕ) → range_with_len first (m + n) ≡ range_with_len first m ++ range_with_len (first + m) n
-range-append first zero n = ap (λ (k : ℕ). range_with_len first k) (zero_add n) ∙ ap (λ (k : ℕ). range_with_len k n) (sym (add_zero first))
-  where
-    zero_add : (k : ℕ) → 0 + k ≡ k
-    zero_add k = omega arith
-
-    add_zero : (k : ℕ) → k + 0 ≡ k
-    add_zero k = omega arith
-range-append first (suc m) n =
-    let size : suc m + n ≡ suc (m + n) = omega arith in
-    let place : first + 1 + m ≡ first + suc m = omega arith in
-    ap (λ (k : ℕ). range_with_len first k) size
-    ∙ ap (λ (xs : List ℕ). first ∷ xs) (range-append (first + 1) m n ∙ ap (λ (k : ℕ). range_with_len (first + 1) m ++ range_with_len k n) place)
-
-pub map-range-same : {X : Type 0} (f g : ℕ → X) (first n : ℕ) → ((k : ℕ) → first ≤ k → k < first + n → f k ≡ g k) → map f (range_with_len first n) ≡ map g (range_with_len first n)
-map-range-same f g first zero same = refl
-map-range-same {X} f g first (suc n) same =
-    let rest = map-range-same f g (first + 1) n (λ k le lt. same k (omega arith) (omega arith)) in
-    ap (λ (x : X). x ∷ map f (range_with_len (first + 1) n)) (same first (omega arith) (omega arith)) ∙ ap (λ (xs : List X). g first ∷ xs) rest
 
 -- the rows that pass, and what is made of them, are the same
 picked-same : {X : Type 0} (f g : ℕ → X) (p q : ℕ → Bool) (first n : ℕ) → ((k : ℕ) → first ≤ k → k < first + n → p k ≡ q k)
@@ -65,11 +46,11 @@ filter-each p first (suc n) each =
 filter-interval : (p : ℕ → Bool) (below first count above : ℕ) → ((k : ℕ) → k < first → p k ≡ false) → ((k : ℕ) → first ≤ k → k < first + count → p k ≡ true)
     → ((k : ℕ) → first + count ≤ k → k < first + count + above → p k ≡ false) → filter p (range_with_len 0 (first + (count + above))) ≡ range_with_len first count
 filter-interval p below first count above low within high =
-    ap (filter p) (range-append 0 first (count + above))
+    ap (filter p) (range_append 0 first (count + above))
     ∙ filter-append p (range_with_len 0 first) (range_with_len (0 + first) (count + above))
     ∙ ap (λ (xs : List ℕ). xs ++ filter p (range_with_len (0 + first) (count + above))) (filter-none p 0 first (λ k le lt. low k (omega arith)))
     ∙ ap (λ (k : ℕ). filter p (range_with_len k (count + above))) zero_first
-    ∙ ap (filter p) (range-append first count above)
+    ∙ ap (filter p) (range_append first count above)
     ∙ filter-append p (range_with_len first count) (range_with_len (first + count) above)
     ∙ ap (λ (xs : List ℕ). xs ++ filter p (range_with_len (first + count) above)) (filter-each p first count within)
     ∙ ap (λ (xs : List ℕ). range_with_len first count ++ xs) (filter-none p (first + count) above high)
@@ -214,7 +195,7 @@ created_row-same : (words new : List ℕ) (row : ℕ) → get_or new (value_at r
 created_row-same words new row same = ap (λ (word : ℕ). record { key = key_of row; values = Int (integer_of word) ∷ [] }) same
 
 pub commits_in-same : (count : ℕ) (words new : List ℕ) → IsSameUpTo count words new → commits_in new count ≡ commits_in words count
-commits_in-same count words new same = map-range-same (commit_of new) (commit_of words) 1 count each
+commits_in-same count words new same = map_same (commit_of new) (commit_of words) 1 count each
   where
     each : (number : ℕ) → 1 ≤ number → number < 1 + count → commit_of new number ≡ commit_of words number
     each number first last =
@@ -233,7 +214,7 @@ commits_in-more words count = map-range_with_len_more (commit_of words) 1 count 
 -- ── the rows of the open transaction ──
 
 pub rows_from-same : (words new : List ℕ) (first n : ℕ) → ((row : ℕ) → first ≤ row → row < first + n → get_or new (value_at row) 0 ≡ get_or words (value_at row) 0) → rows_from new first n ≡ rows_from words first n
-rows_from-same words new first n same = map-range-same (created_row new) (created_row words) first n (λ row le lt. created_row-same words new row (same row le lt))
+rows_from-same words new first n same = map_same (created_row new) (created_row words) first n (λ row le lt. created_row-same words new row (same row le lt))
 
 pub rows_from-more : (words : List ℕ) (first n : ℕ) → rows_from words first (n + 1) ≡ rows_from words first n ++ created_row words (first + n) ∷ []
 rows_from-more words first n = map-range_with_len_more (created_row words) first n (first + n) refl

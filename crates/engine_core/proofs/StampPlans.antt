@@ -6,10 +6,10 @@ use Rattle.pm_model.specs.declared.action.Action.{Action}
 use Rattle.pm_model.specs.declared.action.Action.TheVariants.{Store}
 use Rattle.pm_model.specs.declared.place.Place.{Place}
 use Rattle.pm_model.specs.Plans.{store, stores, part_actions}
-use Rattle.stage_object.proofs.Clears.{length-part_actions}
+use Rattle.pm_model.proofs.Lines.{length-lines_of, length-part_actions}
 use Rattle.engine_core.specs.Stage.{high_at, born_at}
 use Rattle.engine_core.specs.StagePlans.{stamp_part}
-use Rattle.engine_core.proofs.Stores.{stores-at, length-lines_of, length-run}
+use Rattle.engine_core.proofs.Stores.{stores-at, length-run}
 
 stores-more : (number first nth : ℕ) → stores number (map born_at (range_with_len first (nth + 1))) ≡ stores number (map born_at (range_with_len first nth)) ++ store (born_at (first + nth)) number ∷ []
 stores-more number first nth =

@@ -1,12 +1,12 @@
 -- Parts that store one value at a run of places, and one more word.
-use Rattle.std.proofs.Common.{◌≡◌, ◌≢◌, ◌⊎◌, inl, inr, ⊎_elim, ℕ, zero, suc, ◌+◌, ◌/◌, ◌<◌, ◌≤◌, ◌∙◌, false, cond, eqb, ltb, List, [], ◌∷◌, ◌++◌, length, map, get_or, set, refl, ap, sym, arith}
+use Rattle.std.proofs.Common.{◌≡◌, ◌≢◌, ◌⊎◌, inl, inr, ⊎_elim, ℕ, zero, suc, ◌+◌, ◌<◌, ◌≤◌, ◌∙◌, false, eqb, List, [], ◌∷◌, ◌++◌, length, map, get_or, set, refl, ap, sym, arith}
 use Rattle.std.specs.List.{range_with_len}
-use Rattle.std.proofs.lemmas.Bool.{cases_eq, eqb-true, ne_eqb, or_from, cond_both}
+use Rattle.std.proofs.lemmas.Bool.{cases_eq, eqb-true, ne_eqb, or_from}
 use Rattle.std.proofs.lemmas.List.{get_or-set_same, get_or-set_other, length-set}
-use Rattle.pm_model.specs.declared.action.Action.TheVariants.{Store, Flush, Fence, Punch}
-use Rattle.pm_model.specs.Plans.{Part, store, one_store, stores, words_after, footprint, add_line, lines_of, part_actions, plan_of, finished, IsPart}
+use Rattle.pm_model.specs.Plans.{Part, store, one_store, stores, words_after, footprint, part_actions, plan_of, finished, IsPart}
 use Rattle.pm_model.proofs.PlanLaw.{words_after-kept}
 use Rattle.pm_model.proofs.Alone.{words_after-append, words_after-part}
+use Rattle.pm_model.proofs.Cuts.{store_part}
 
 -- ── a plan ──
 
@@ -18,22 +18,6 @@ words_after-plan (part ∷ parts) words =
     ∙ ap (words_after (plan_of parts)) (words_after-part part words)
     ∙ words_after-plan parts (words_after part words)
 
-length-add_line : (line : ℕ) (lines : List ℕ) → length (add_line line lines) ≤ length lines + 1
-length-add_line line [] = omega arith
-length-add_line line (first ∷ lines) = cond_both (ltb line first) (line ∷ first ∷ lines) (cond (eqb line first) (first ∷ lines) (first ∷ add_line line lines))
-    (λ (xs : List ℕ). length xs ≤ length (first ∷ lines) + 1)
-    (λ e. omega arith)
-    (λ e. cond_both (eqb line first) (first ∷ lines) (first ∷ add_line line lines) (λ (xs : List ℕ). length xs ≤ length (first ∷ lines) + 1)
-    (λ f. omega arith) (λ f. let rest = length-add_line line lines in omega (arith, rest)))
-
--- a part touches no more lines than it has stores
-pub length-lines_of : (part : Part) → length (lines_of part) ≤ length part
-length-lines_of [] = omega arith
-length-lines_of (Store place value ∷ part) = let one = length-add_line (place.0 / 8) (lines_of part) in let rest = length-lines_of part in omega (arith, one, rest)
-length-lines_of (Flush line ∷ part) = let rest = length-lines_of part in omega (arith, rest)
-length-lines_of (Fence ∷ part) = let rest = length-lines_of part in omega (arith, rest)
-length-lines_of (Punch page ∷ part) = let rest = length-lines_of part in omega (arith, rest)
-
 -- ── one store ──
 
 pub get-stored : (words : List ℕ) (place value : ℕ) → place < length words → get_or (words_after (one_store place value) words) place 0 ≡ value
@@ -41,10 +25,6 @@ get-stored words place value within = get_or-set_same words place value 0 within
 
 pub get-beside : (words : List ℕ) (place value w : ℕ) → w ≢ place → get_or (words_after (one_store place value) words) w 0 ≡ get_or words w 0
 get-beside words place value w apart = get_or-set_other words place w value 0 apart
-
--- one store is a part
-pub one_store-part : (size place value : ℕ) → place < size → IsPart size (one_store place value)
-one_store-part size place value within = (tt, within, (λ w hit. refl), tt)
 
 -- ── a run of stores, and one more ──
 
@@ -71,7 +51,7 @@ module _ (value : ℕ) (place : ℕ → ℕ) (base : ℕ) (is : (k : ℕ) → pl
       (run-misses (first + 1) count w (⊎_elim (λ (low : w < base + first). inl (omega (arith, low))) (λ (high : base + first + suc count ≤ w). inr (omega (arith, high))) out) apart)
 
   pub run-part : (size first count : ℕ) → base + first + count ≤ size → last < size → ((k : ℕ) → first ≤ k → k < first + count → last ≢ base + k) → IsPart size (run first count)
-  run-part size first zero room within apart = one_store-part size last last_value within
+  run-part size first zero room within apart = store_part size last last_value within
   run-part size first (suc count) room within apart =
       let at = is first in (
         tt,

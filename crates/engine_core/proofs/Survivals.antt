@@ -11,7 +11,7 @@ use Rattle.pm_model.specs.Device.{Device, acted, IsClean, IsCrashImage}
 use Rattle.pm_model.specs.Fixed.{last_at, state_at, commit_word_at, entry_at}
 use Rattle.pm_model.specs.Plans.{Part, Play, IsPlaying, IsPlan, EachCut, EachMoment, at_rest, finished, plan_of, run, words_after}
 use Rattle.pm_model.proofs.Alone.{cached-run, length-words_after, IsPlan-size}
-use Rattle.pm_model.proofs.Cuts.{length-finished}
+use Rattle.pm_model.proofs.Cuts.{length-finished, store_part}
 use Rattle.pm_model.proofs.PlanLaw.{plan_begins, plan_goes_on, plan_survives, moments-each_cut, moments-halves}
 use Rattle.stage_object.specs.Object.{begin_parts}
 use Rattle.txn_object.specs.Entries.{entry_word}
@@ -29,7 +29,7 @@ use Rattle.engine_core.proofs.RunningCuts.{stage-shows, begin-cuts, close-cuts, 
 use Rattle.engine_core.proofs.CommitCuts.{early-cuts, late-cuts}
 use Rattle.engine_core.proofs.Commits as commits
 use Rattle.engine_core.proofs.Commits.{commit_parts-five, close_parts-one}
-use Rattle.engine_core.proofs.Stores.{words_after-plan, one_store-part}
+use Rattle.engine_core.proofs.Stores.{words_after-plan}
 
 -- ── from the words that a plan reaches to the images of the device ──
 
@@ -110,7 +110,7 @@ begin-survives words begun number snapshot actions now stage is_actions decided 
     let before = state_of words (record { begun = begun; running = None }) in
     let after = state_of (words_after actions words) now in
     let rows : get_or words high_at 0 + 0 ≡ next_row_of (state_of (words_after actions words) now) 0 = ap (λ (s : State). next_row_of s 0) decided.state in
-    parts-survive words before after (begin_parts 0) actions (one_store-part (length words) (state_at 0) 1 (let s = stage.size in omega (arith, s)), tt) is_actions
+    parts-survive words before after (begin_parts 0) actions (store_part (length words) (state_at 0) 1 (let s = stage.size in omega (arith, s)), tt) is_actions
     (begin-cuts words before after fits stage (sym (ap (λ (s : State). s.commits) decided.state)) (omega arith) (omega (arith, rows)))
 
 pub close-survives : (words : List ℕ) (begun : ℕ) (own : Running) (actions : List Action) (now : Transactions) → IsStage words (Some own) → own.rows ≡ 0 → actions ≡ plan_of close_parts
@@ -121,7 +121,7 @@ close-survives words begun own actions now stage none is_actions decided fits =
     let after = state_of (words_after actions words) now in
     let rows : get_or words high_at 0 + own.rows ≡ next_row_of (state_of (words_after actions words) now) 0 = ap (λ (s : State). next_row_of s 0) decided.state in
     let size : 1024 < length words = (let s = stage.size in omega (arith, s)) in
-    parts-survive words before after close_parts actions (subst (IsPlan (length words)) (sym close_parts-one) (one_store-part (length words) (state_at 0) 0 size, tt)) is_actions
+    parts-survive words before after close_parts actions (subst (IsPlan (length words)) (sym close_parts-one) (store_part (length words) (state_at 0) 0 size, tt)) is_actions
     (close-cuts words own before after fits stage none (sym (ap (λ (s : State). s.commits) decided.state)) (omega (arith, none)) (omega (arith, rows, none)))
 
 pub insert-survives : (words : List ℕ) (begun : ℕ) (own : Running) (row word : ℕ) (value : ℤ) (actions : List Action) (now : Transactions) → IsStage words (Some own)
@@ -133,7 +133,7 @@ insert-survives words begun own row word value actions now stage is_row few fewe
     let after = state_of (words_after actions words) now in
     let rows : get_or words high_at 0 + own.rows + 1 ≡ next_row_of (state_of (words_after actions words) now) 0 = ap (λ (s : State). next_row_of s 0) decided.state in
     parts-survive words before after (insert_parts own.rows row word) actions
-    (one_store-part (length words) (entry_at 0 own.rows) (entry_word (created_entry row)) (let s = stage.size in omega (arith, s, few)), (one_store-part (length words) (value_at row) word (let s = stage.size in omega (arith, s, fewer)), tt)) is_actions
+    (store_part (length words) (entry_at 0 own.rows) (entry_word (created_entry row)) (let s = stage.size in omega (arith, s, few)), (store_part (length words) (value_at row) word (let s = stage.size in omega (arith, s, fewer)), tt)) is_actions
     (insert-cuts words own stage row word is_row few fewer before after fits (sym (ap (λ (s : State). s.commits) decided.state)) refl (omega (arith, rows)))
 
 -- ── a commit ──

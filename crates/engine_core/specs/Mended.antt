@@ -4,11 +4,11 @@ use Rattle.pm_model.specs.declared.action.Action.TheVariants.{Store, Flush, Fenc
 use Rattle.pm_model.specs.declared.action.Action.{Action}
 use Rattle.pm_model.specs.Fixed.{commit_word_at, entry_at}
 use Rattle.pm_model.specs.Places.{below}
-use Rattle.pm_model.specs.Plans.{Part, IsPlan, footprint, finished, one_store, plan_of, stores}
+use Rattle.pm_model.specs.Plans.{Part, IsPlan, footprint, one_store, plan_of, stores}
 use Rattle.engine_core.specs.declared.opening.Mending.TheVariants as code
 use Rattle.engine_core.specs.declared.opening.Mending.{Mending as Named}
-use Rattle.pm_model.specs.Needed.{needed_parts, needed_stores}
-use Rattle.engine_core.specs.Opening.{Mending, last_mending, undo_mending, close_mending, clear_mending}
+use Rattle.pm_model.specs.Needed.{needed_parts, needed_stores, Mending}
+use Rattle.engine_core.specs.Opening.{last_mending, undo_mending, close_mending, clear_mending}
 
 -- what a mending of this name does
 abbrev pub mending_of : Named → Mending
@@ -41,12 +41,9 @@ pub record IsTaken (words : List ℕ) (part kept : Part) (marks : List Bool) : T
 unfoldable pub cleared_part : ℕ → Part
 cleared_part object = stores 0 (map (entry_at object) (below 60)) ++ one_store (commit_word_at object) 0
 
--- the plan that a mending plays on these words, and the words that it leaves
+-- the plan that a mending plays on these words
 unfoldable pub mended_plan : Mending → List ℕ → List Action
 mended_plan mending words = plan_of (needed_parts words (mending words))
-
-unfoldable pub mended_words : Mending → List ℕ → List ℕ
-mended_words mending words = finished (needed_parts words (mending words)) words
 
 -- the stores that a mending needs on these words are a plan
 pub record IsMending (mending : Mending) (words : List ℕ) : Type 0 where

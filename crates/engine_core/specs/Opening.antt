@@ -4,7 +4,7 @@ use Rattle.std.specs.Prelude.{ℕ, max, Bool, not, ◌&&◌, ◌||◌, ◌==◌,
 use Rattle.std.specs.List.{flat_map}
 use Rattle.pm_model.specs.Fixed.{last_at, state_at, commit_word_at, entry_at}
 use Rattle.pm_model.specs.Places.{below}
-use Rattle.pm_model.specs.Needed.{needed_parts}
+use Rattle.pm_model.specs.Needed.{needed_parts, Mending}
 use Rattle.pm_model.specs.Plans.{Part, one_store, stores, finished}
 use Rattle.pm_model.specs.Checks.{Fault, or_else, first_fault}
 use Rattle.txn_object.specs.declared.entry.Entry.{Entry}
@@ -14,10 +14,6 @@ use Rattle.stage_object.specs.Object.{entries_in}
 use Rattle.engine_core.specs.Stage.{high_at, born_at, ended_at}
 use Rattle.engine_core.specs.LogicalState.{greatest, past_entry, commit_count}
 use Rattle.engine_core.specs.ImageRules.{dead, entry_rules, closing_rules}
-
--- the parts that mend something, from the words before it
-abbrev pub Mending : Type 0
-Mending = List ℕ → List Part
 
 -- ── what is mended ──
 

@@ -9,15 +9,14 @@ ghost use Rattle.stage_object.specs.Object.{entries_in};
 ghost use Rattle.engine_core.specs.Stage.{high_at};
 ghost use Rattle.engine_core.specs.LogicalState.{commit_count, of_open, past_entry};
 ghost use Rattle.engine_core.specs.ImageRules.{KeepsEntryRules};
-ghost use Rattle.pm_model.specs.Needed.{needed_stores, needed_parts};
+ghost use Rattle.pm_model.specs.Needed.{needed_stores, needed_parts, after_mending};
 ghost use Rattle.engine_core.specs.Opening.{is_open, last_mending, undo_mending, close_mending, clear_mending, undo_entry, undo_part, past_created, recovered, mendings};
-ghost use Rattle.engine_core.specs.Mended.{mending_of, mended_plan, mended_words, cleared_part, AreMended, IsMending, IsOfObject, IsTaken};
+ghost use Rattle.engine_core.specs.Mended.{mending_of, mended_plan, cleared_part, AreMended, IsMending, IsOfObject, IsTaken};
 
 use crate::layout::{born, ended, high};
-use crate::rules::DEAD;
 use pm_model::{
-    Action, Memory, NoMemory, OBJECT_ENTRIES, OBJECTS, Place, Plan, commit_word, entry_word,
-    last_commit, object_state, play,
+    Action, Memory, NO_COMMIT, NoMemory, OBJECT_ENTRIES, OBJECTS, Place, Plan, commit_word,
+    entry_word, last_commit, object_state, play,
 };
 use std::alloc::Global;
 use txn_object::{Entry, EntryKind};
@@ -83,7 +82,7 @@ fn mend<M: Memory>(alloc: Global, memory: &mut M, mending: Mending) -> Result<()
     requires rules { KeepsEntryRules (M.device memory.old).cached }
     requires object { IsOfObject mending }
     requires plan { IsMending (mending_of mending) (M.device memory.old).cached }
-    ensures { IfOk result (λ _. M.device memory.new ≡ at_rest (mended_words (mending_of mending) (M.device memory.old).cached)) }
+    ensures { IfOk result (λ _. M.device memory.new ≡ at_rest (after_mending (mending_of mending) (M.device memory.old).cached)) }
 {
     let mut plan = plan_mending(alloc, memory, mending)?;
     let count = plan.len();
@@ -283,7 +282,10 @@ fn push_undo<M: Memory>(memory: &M, entry: Entry, part: &mut Vec<Action>)
             let place = born(entry.row);
             let stamp = memory.load(place);
             if stamp == 0 || last < stamp {
-                part.push_reserved(Action::Store { place, value: DEAD });
+                part.push_reserved(Action::Store {
+                    place,
+                    value: NO_COMMIT,
+                });
             }
         }
         EntryKind::Ended => {

@@ -10,9 +10,9 @@ use crate::layout::{STAGE_ROWS, born, ended, high};
 use crate::stage::STAGE_VERSION;
 use mv_model::limits::MAX_COMMITS;
 use pm_model::{
-    MAGIC, Memory, OBJECT_ENTRIES, OBJECTS, PAGE_WORDS, Page, Place, RESERVED, commit_word,
-    descriptor, entry_word, last_commit, magic, object_state, ready_segments, segment_pointer,
-    version,
+    MAGIC, Memory, NO_COMMIT, OBJECT_ENTRIES, OBJECTS, PAGE_WORDS, Page, Place, RESERVED,
+    commit_word, descriptor, entry_word, last_commit, magic, object_state, ready_segments,
+    segment_pointer, version,
 };
 
 // The pages at the front of the image that the heap never gives out, and how many pages a segment has.
@@ -26,9 +26,6 @@ const KIND_UNIT: u64 = 1 << 56;
 const TABLE_UNIT: u64 = 1 << 32;
 
 const TABLE_COUNT: u64 = 1 << 24;
-
-/// The stamp of a dead row.
-pub(crate) const DEAD: u64 = u64::MAX;
 
 /// A rule that an image breaks, by its number, and the place of the word at which it does.
 #[derive(Clone, Copy, Debug)]
@@ -229,7 +226,7 @@ fn bad_row<M: Memory>(memory: &M, row: u32) -> Option<u32>
     let created = memory.load(born(row));
     let removed = memory.load(ended(row));
     let is_born = if used {
-        created == 0 || created == DEAD || is_commit(last, created)
+        created == 0 || created == NO_COMMIT || is_commit(last, created)
     } else {
         created == 0
     };

@@ -1,25 +1,24 @@
 -- The part over pages that were given back, page by page.
-use Rattle.std.proofs.Common.{◌≡◌, ◌≢◌, ℕ, zero, suc, ◌+◌, ◌-◌, ◌*◌, ◌<◌, ◌≤◌, Bool, true, false, cond, eqb, List, [], ◌∷◌, ◌++◌, length, drop, map, get_or, refl, sym, ◌∙◌, ap, arith, append_assoc, append-nil, length-append}
+use Rattle.std.proofs.Common.{◌≡◌, ◌≢◌, ℕ, suc, ◌+◌, ◌-◌, ◌*◌, ◌<◌, ◌≤◌, Bool, true, false, cond, eqb, List, [], ◌∷◌, ◌++◌, length, drop, map, get_or, refl, sym, ◌∙◌, ap, arith, append_assoc, append-nil, length-append}
 use Rattle.std.specs.List.{range_with_len, filter}
 use Rattle.std.proofs.lemmas.Bool.{cond-true, cond-false, eq-eqb, ne_eqb}
-use Rattle.std.proofs.Math.Seq.{drop-append_seam}
 use Rattle.std.proofs.lemmas.List.{map-append, length-map}
 use Rattle.std.proofs.lemmas.List.Elements.{filter-append}
 use Rattle.pm_model.specs.declared.action.Action.{Action}
 use Rattle.pm_model.specs.Fixed.{descriptor_at}
 use Rattle.pm_model.specs.declared.action.Action.TheVariants.{Flush, Fence}
 use Rattle.pm_model.specs.Plans.{store, unless_empty, lines_of, part_end, part_actions, plan_of}
-use Rattle.pm_model.proofs.Lines.{part_has_room}
+use Rattle.pm_model.proofs.Lines.{last_part, part_has_room}
+use Rattle.pm_model.proofs.Ranges.{range_more}
 use Rattle.heap_palloc.specs.Parts.{forget_given_back}
 
-range_more : (a n : ℕ) → range_with_len a (suc n) ≡ range_with_len a n ++ (a + n) ∷ []
-range_more a zero = ap (λ (x : ℕ). x ∷ []) (omega arith)
-range_more a (suc n) = ap (λ (xs : List ℕ). a ∷ xs) (range_more (a + 1) n) ∙ ap (λ (x : ℕ). a ∷ (range_with_len (a + 1) n ++ x ∷ [])) (omega arith)
+next : (n : ℕ) → n + 1 ≡ suc n
+next n = omega arith
 
 -- one page more
 pub forget_more : (words : List ℕ) (a n : ℕ) → forget_given_back words (range_with_len a (suc n)) ≡ forget_given_back words (range_with_len a n) ++ cond (eqb (get_or words (descriptor_at (a + n)) 0) 1) (store (descriptor_at (a + n)) 0 ∷ []) []
 forget_more words a n =
-    ap (forget_given_back words) (range_more a n)
+    ap (λ (k : ℕ). forget_given_back words (range_with_len a k)) (sym (next n)) ∙ ap (forget_given_back words) (range_more a n)
     ∙ ap (map (λ page. store (descriptor_at page) 0)) (filter-append (λ page. eqb (get_or words (descriptor_at page) 0) 1) (range_with_len a n) ((a + n) ∷ []))
     ∙ map-append (λ page. store (descriptor_at page) 0) (filter (λ page. eqb (get_or words (descriptor_at page) 0) 1) (range_with_len a n)) (filter (λ page. eqb (get_or words (descriptor_at page) 0) 1) ((a + n) ∷ []))
     ∙ ap (λ (xs : List Action). forget_given_back words (range_with_len a n) ++ xs) (one (eqb (get_or words (descriptor_at (a + n)) 0) 1))
@@ -27,9 +26,6 @@ forget_more words a n =
     one : (b : Bool) → map (λ page. store (descriptor_at page) 0) (cond b ((a + n) ∷ []) []) ≡ cond b (store (descriptor_at (a + n)) 0 ∷ []) []
     one true = refl
     one false = refl
-
-next : (n : ℕ) → n + 1 ≡ suc n
-next n = omega arith
 
 -- one that was given back, and one that wasn't
 pub forget_hit : (words : List ℕ) (a n : ℕ) → get_or words (descriptor_at (a + n)) 0 ≡ 1 → forget_given_back words (range_with_len a (n + 1)) ≡ forget_given_back words (range_with_len a n) ++ store (descriptor_at (a + n)) 0 ∷ []
@@ -61,11 +57,6 @@ pushed_miss words a n place count old before was at none counted =
     (was ∙ ap (λ (xs : List Action). old ++ xs) (sym miss), counted ∙ ap (length {A = Action}) (sym miss))
 
 -- ── the whole part ──
-
--- the last actions of a plan are its part
-pub last_part : (old part left : List Action) (count : ℕ) → left ≡ old ++ part → count ≡ length part → drop (length left - count) left ≡ part
-last_part old part left count left_is counted =
-    ap (λ (n : ℕ). drop n left) (omega (arith, counted, ap (length {A = Action}) left_is, length-append old part)) ∙ ap (drop (length old)) left_is ∙ drop-append_seam old part
 
 within_left : (old part left : List Action) (count : ℕ) → left ≡ old ++ part → count ≡ length part → count ≤ length left
 within_left old part left count left_is counted = omega (arith, counted, ap (length {A = Action}) left_is, length-append old part)

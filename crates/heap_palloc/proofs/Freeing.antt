@@ -1,14 +1,14 @@
 -- What the calls rely on lets the block that a word names be freed.
-use Rattle.std.proofs.Common.{◌≡◌, ◌≢◌, ◌⊎◌, inl, inr, ⊎_elim, ℕ, ◌+◌, ◌-◌, ◌*◌, ◌/◌, ◌%◌, ◌<◌, ◌≤◌, Bool, true, false, not, eqb, cond, List, [], ◌++◌, length, get_or, refl, sym, ◌∙◌, ap, subst, arith, append-nil}
+use Rattle.std.proofs.Common.{◌≡◌, ◌≢◌, ◌⊎◌, inl, inr, ⊎_elim, ℕ, ◌+◌, ◌-◌, ◌*◌, ◌/◌, ◌%◌, ◌<◌, ◌≤◌, Bool, true, false, not, eqb, ltb, cond, List, [], ◌++◌, length, get_or, refl, sym, ◌∙◌, ap, subst, arith, append-nil}
 use Rattle.std.specs.Prelude.{Contains}
 use Rattle.std.specs.Int.{bit_at}
-use Rattle.std.proofs.lemmas.Bool.{cases_eq, both_ways, not_from_false, not_from_true, and_from, eq-eqb, ne_eqb, cond-true, cond-false}
+use Rattle.std.proofs.lemmas.Bool.{cases_eq, both_ways, not_from_false, not_from_true, and_from, eq-eqb, ne_eqb, lt-ltb, cond-true, cond-false}
 use Rattle.std.proofs.lemmas.Grind.{flat_map-append}
 use Rattle.pm_model.specs.declared.action.Action.{Action}
 use Rattle.pm_model.specs.Device.{Device, IsWhole}
 use Rattle.pm_model.specs.Fixed.{descriptor_at}
 use Rattle.pm_model.specs.Pointer.{pointer_word}
-use Rattle.pm_model.specs.Places.{page_of, page_at, page_count, place_in}
+use Rattle.pm_model.specs.Places.{page_of, page_at, page_count, place_in, is_pointer}
 use Rattle.pm_model.specs.Plans.{one_store, part_actions, plan_of, finished}
 use Rattle.pm_model.specs.Blocks.{Block, slot_words, slots_of, slot_at, slot_in, descriptor_of, says_small, is_inside, is_small_page, class_of, bitmap_of, small_block}
 use Rattle.pm_model.proofs.Heap.{IsBigOf, small_class, big_pages, big_ends, page_of_block, free_pages_unused}
@@ -64,7 +64,7 @@ module _ (d : Device) (whole : IsWhole d) (index : HeapIndex) (lane dest : ℕ) 
   named_is block owns = ap place_in owns.named ∙ place_in-pointer block.first
 
   -- which is one of the image
-  pub named_pointer : (block : Block) → OwnsBlock d.cached dest block → (place : ℕ) × (place < length d.cached) × (get_or d.cached dest 0 ≡ pointer_word place)
+  pub named_pointer : (block : Block) → OwnsBlock d.cached dest block → is_pointer d.cached (get_or d.cached dest 0) ≡ true
   named_pointer block owns =
       let (page, lt, of) = page_of_block d.cached block owns.live in
       let within : block.first < 512 * page + 512 = ⊎_elim
@@ -74,7 +74,10 @@ module _ (d : Device) (whole : IsWhole d) (index : HeapIndex) (lane dest : ℕ) 
       subst (λ (n : ℕ). n < 512 * page + 512) first (slot_at-below page (class_of d.cached page) a.slot (omega (arith, class)) a.within))
       (λ a. let first : page_at page ≡ block.first = ap (λ (b : Block). b.first) a.block_is in omega (arith, first))
       of in
-      (block.first, omega (arith, within, lt), owns.named)
+      let first = named_is block owns in
+      let inside : place_in (get_or d.cached dest 0) < length d.cached = omega (arith, first, within, lt) in
+      and_from (eqb (get_or d.cached dest 0) (pointer_word (place_in (get_or d.cached dest 0)))) (ltb (place_in (get_or d.cached dest 0)) (length d.cached))
+      (eq-eqb (get_or d.cached dest 0) (pointer_word (place_in (get_or d.cached dest 0))) (owns.named ∙ ap pointer_word (sym first))) (lt-ltb (place_in (get_or d.cached dest 0)) (length d.cached) inside)
 
   -- ── a slot ──
 

@@ -10,6 +10,7 @@ pub mod Forgetting
 pub mod Freeing
 pub mod GivenBack
 pub mod Indexed
+pub mod Lengths
 pub mod LiveBlocks
 pub mod Longest
 pub mod OwnedDests
@@ -18,10 +19,10 @@ pub mod PageCalls
 pub mod PagePlans
 pub mod Pages
 pub mod Planned
-pub mod Ranges
 pub mod Reindex
 pub mod Rooms
 pub mod RulesKept
+pub mod SameHeaps
 pub mod Scans
 pub mod Settled
 pub mod SlotCalls

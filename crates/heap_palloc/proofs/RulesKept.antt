@@ -1,17 +1,18 @@
 -- A formatted image keeps the heap's rules, and so does each plan.
-use Rattle.std.proofs.Common.{◌≡◌, ◌≢◌, ◌⊎◌, inl, inr, ⊎_elim, ℕ, ◌+◌, ◌-◌, ◌/◌, ◌%◌, ◌^◌, ◌<◌, ◌≤◌, Bool, true, false, not, ◌&&◌, eqb, ltb, leb, List, get_or, map, set, sym, ◌∙◌, ap, subst, arith}
-use Rattle.std.specs.Prelude.{◌==◌, Contains, All, IsTrue}
+use Rattle.std.proofs.Common.{◌≡◌, ◌≢◌, ◌⊎◌, inl, inr, ⊎_elim, ℕ, ◌+◌, ◌-◌, ◌/◌, ◌%◌, ◌^◌, ◌<◌, ◌≤◌, Bool, true, false, not, ◌&&◌, eqb, ltb, leb, List, set, sym, ◌∙◌, ap, subst, arith}
+use Rattle.std.specs.Prelude.{◌==◌}
 use Rattle.std.proofs.lemmas.Bool.{cases_Bool, cases_eq, cases_lt, both_ways, not-true, and_parts, and_from, or_cases, or_parts, or_left, or_right, or_from, eqb-true, eq-eqb, eqb-false, ne_eqb, ltb-true, ltb-false, lt-ltb, le-ltb, le-leb, cond-true, cond-false, false_from_ne_true}
-use Rattle.std.proofs.lemmas.List.Elements.{All-contains, All-map, Contains-get_or}
+use Rattle.std.proofs.lemmas.List.Elements.{All-contains}
 use Rattle.std.proofs.lemmas.Nat.{or_lt, xor_lt, pow_pos}
 use Rattle.std.proofs.Math.Pow.{pow-lt}
 use Rattle.pm_model.specs.Fixed.{descriptor_at}
 use Rattle.pm_model.specs.Places.{below, page_at, page_count}
 use Rattle.pm_model.specs.Plans.{finished}
 use Rattle.pm_model.specs.Blocks.{slots_of, descriptor_of, says_small, says_big, is_inside, is_small_page, is_reserved, class_of, bitmap_of}
-use Rattle.pm_model.specs.Checks.{Check, check}
+use Rattle.pm_model.specs.Checks.{check}
 use Rattle.pm_model.specs.HeapRules.{reserved_rule, descriptor_rule, bitmap_rule, is_descriptor}
 use Rattle.pm_model.specs.Fresh.{fresh_word, fresh_words, is_reserved_descriptor}
+use Rattle.pm_model.proofs.Faults.{mapped_hold}
 use Rattle.pm_model.proofs.FreshImage.{length-fresh_words, get_or-fresh_words}
 use Rattle.pm_model.proofs.Heap.{Holds, reserved_descriptor, known_descriptor, small_class}
 use Rattle.pm_model.proofs.Members.{below-Contains, Contains-below, Contains-filter, filter-Contains, map-Contains}
@@ -36,25 +37,22 @@ pub record IsKept (words : List ℕ) (page : ℕ) : Type 0 where
   pub known : is_reserved page ≡ false → is_inside words page ≡ false → is_descriptor page (descriptor_of words page) ≡ true
   pub bitmap : is_small_page words page ≡ true → bitmap_of words page < 2 ^ slots_of (class_of words page)
 
-mapped : (f : ℕ → Check) (xs : List ℕ) → ((x : ℕ) → Contains xs x → IsTrue (f x).holds) → All Holds (map f xs)
-mapped f xs hold = All-map Holds f xs (λ k d lt. hold (get_or xs k d) (Contains-get_or xs k d lt))
-
 pub rules_from : (words : List ℕ) → ((page : ℕ) → page < page_count words → IsKept words page) → KeepsHeapRules words
 unfolding reserved_rule descriptor_rule bitmap_rule
 rules_from words kept = record {
   reserved = record {
-    checks = mapped (λ page. check (descriptor_at page) (descriptor_of words page == 8)) _ (λ page of.
+    checks = mapped_hold (λ page. check (descriptor_at page) (descriptor_of words page == 8)) _ (λ page of.
         let found = Contains-filter is_reserved (below (page_count words)) page of in
         eq-eqb (descriptor_of words page) 8 ((kept page (Contains-below (page_count words) page found.0)).reserved found.1));
   };
   descriptors = record {
-    checks = mapped (λ page. check (descriptor_at page) (is_descriptor page (descriptor_of words page))) _ (λ page of.
+    checks = mapped_hold (λ page. check (descriptor_at page) (is_descriptor page (descriptor_of words page))) _ (λ page of.
         let found = Contains-filter (λ p. not (is_reserved p) && not (is_inside words p)) (below (page_count words)) page of in
         let parts = and_parts (not (is_reserved page)) (not (is_inside words page)) found.1 in
         (kept page (Contains-below (page_count words) page found.0)).known (not-true (is_reserved page) parts.0) (not-true (is_inside words page) parts.1));
   };
   bitmaps = record {
-    checks = mapped (λ page. check (page_at page) (ltb (bitmap_of words page) (2 ^ slots_of (class_of words page)))) _ (λ page of.
+    checks = mapped_hold (λ page. check (page_at page) (ltb (bitmap_of words page) (2 ^ slots_of (class_of words page)))) _ (λ page of.
         let found = Contains-filter (is_small_page words) (below (page_count words)) page of in
         lt-ltb (bitmap_of words page) (2 ^ slots_of (class_of words page)) ((kept page (Contains-below (page_count words) page found.0)).bitmap found.1));
   };

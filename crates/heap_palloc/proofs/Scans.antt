@@ -14,7 +14,7 @@ use Rattle.heap_big.specs.Descriptors as big
 use Rattle.heap_big.specs.Pages.{IsRising}
 use Rattle.heap_big.specs.Runs.{FreeRuns, IsFree, IsWellFormed}
 use Rattle.heap_palloc.specs.Index.{HeapIndex, rooms_of, is_full, has_room, pages_with_room, IsIndexOf}
-use Rattle.heap_palloc.proofs.Ranges.{map_append, filter_append, map_more, filter_hit, filter_miss, filter-filter, filter_last}
+use Rattle.pm_model.proofs.Ranges.{map_append, filter_append, map_more, filter_hit, filter_miss, filter-filter, filter_last}
 use Rattle.heap_big.proofs.Rising.{rising-lower, filter-rising}
 
 -- ── a page of a segment ──

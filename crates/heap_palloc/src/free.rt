@@ -1,11 +1,10 @@
 // Planning a freeing.
-ghost use Rattle.std.specs.Prelude.{◌≡◌, ◌≢◌, ◌<◌, ℕ, false, true, Contains, IfOk, OnErr, length, slice_index};
+ghost use Rattle.std.specs.Prelude.{◌≡◌, ◌≢◌, ◌<◌, ℕ, false, true, Contains, IfOk, OnErr, slice_index};
 ghost use Rattle.heap_big.specs.Runs.{IsFree, IsWellFormed, Adds};
 ghost use Rattle.heap_palloc.specs.Shown.{GainsOne};
 ghost use Rattle.heap_palloc.specs.Index.{rooms_of};
 ghost use Rattle.pm_model.specs.Places.{place_in};
 ghost use Rattle.pm_model.specs.Blocks.{Block};
-ghost use Rattle.pm_model.specs.Pointer.{pointer_word};
 ghost use Rattle.heap_palloc.specs.Lane.{is_big_place};
 ghost use Rattle.heap_palloc.specs.Calls.{MayCall, OwnsBlock, IsFreed};
 
@@ -14,8 +13,8 @@ use crate::parts::{ALLOCATION_ACTIONS, STORE_ACTIONS, push_freeing};
 use heap_big::Run;
 use heap_small::{Class, class_words, first_free, without};
 use pm_model::{
-    BIG_HEAD, FIRST_SLOT, Memory, NoMemory, PAGE_WORDS, PPtr, Page, Place, Plan, SMALL_PAGE,
-    descriptor,
+    BIG_HEAD, FIRST_SLOT, Memory, NoMemory, PAGE_WORDS, Page, Place, Plan, SMALL_PAGE, descriptor,
+    named_place,
 };
 use std::alloc::Global;
 
@@ -42,16 +41,6 @@ pub fn plan_free<M: Memory>(
     } else {
         free_slot(alloc, mem, heap, lane, dest, first)
     }
-}
-
-// The place that the pointer at `dest` names.
-fn named_place<M: Memory>(mem: &M, dest: Place) -> Place
-    requires dest { dest.0 < length (M.device mem.now).cached }
-    requires pointer { (place : ℕ) × (place < length (M.device mem.now).cached) × (slice_index (M.device mem.now).cached dest.0 ≡ pointer_word place) }
-    ensures { result.0 ≡ place_in (slice_index (M.device mem.now).cached dest.0) }
-{
-    let pointer = PPtr::try_read(mem.load(dest), mem.len()).unwrap();
-    pointer.place().unwrap()
 }
 
 // Plans the freeing of a big block.

@@ -11,8 +11,8 @@ use Rattle.pm_model.specs.Arrays.{array_rule, chunk_count, chunk_pointer_at, is_
 use Rattle.pm_model.specs.Tables.{table_count, table_block, array_headers, column_headers, columns_of}
 use Rattle.pm_model.specs.Checks.{Check, check, Keeps, first_failing}
 use Rattle.pm_model.specs.EntryRules.{arrays_rule}
-use Rattle.pm_model.proofs.Faults.{first_failing-none}
-use Rattle.image_rules.proofs.Firsts.{flat_part, none-head, none-append, passes, fails, map_none, map_some, flat_none, flat_found, found_none, first_of, then_rest, then_last, flat_map-flat_map}
+use Rattle.pm_model.proofs.Faults.{first_failing-none, passes, fails}
+use Rattle.image_rules.proofs.Firsts.{flat_part, none-head, none-append, map_none, map_some, flat_none, flat_found, found_none, first_of, then_rest, then_last, flat_map-flat_map}
 
 module _ (words : List ℕ) where
   -- ── one array ──

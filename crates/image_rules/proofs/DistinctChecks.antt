@@ -8,8 +8,9 @@ use Rattle.pm_model.specs.Records.{column_at, column_name_at, table_name_at}
 use Rattle.pm_model.specs.Tables.{table_count, table_block, columns_of}
 use Rattle.pm_model.specs.Checks.{Check, check, first_failing}
 use Rattle.pm_model.specs.SoundRules.{same_name, name_place_checks, table_name_checks, distinct_name_rule}
+use Rattle.pm_model.proofs.Faults.{passes, fails}
 use Rattle.image_rules.specs.Parts.{before_of}
-use Rattle.image_rules.proofs.Firsts.{passes, fails, first_of, then_rest}
+use Rattle.image_rules.proofs.Firsts.{first_of, then_rest}
 
 -- ── among the first ones ──
 

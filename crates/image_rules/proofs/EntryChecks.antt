@@ -11,9 +11,9 @@ use Rattle.pm_model.specs.Records.{segment_entry_at}
 use Rattle.pm_model.specs.Objects.{is_open, ready_count, segment_pointer_at, segment_of, entry_places}
 use Rattle.pm_model.specs.Checks.{Check, check, Keeps, first_failing}
 use Rattle.pm_model.specs.EntryRules.{objects_rule, object_rule, entries_rule, entry_checks, is_entry, is_segment_pointer}
-use Rattle.pm_model.proofs.Faults.{first_failing-none, all_hold}
+use Rattle.pm_model.proofs.Faults.{first_failing-none, all_hold, passes, fails}
 use Rattle.image_rules.specs.Parts.{segment_checks}
-use Rattle.image_rules.proofs.Firsts.{map_holds, map-range, passes, fails, none-append, none-head, flat_none, flat_part, flat_found, found_none, flat_map-filter}
+use Rattle.image_rules.proofs.Firsts.{map_holds, map-range, none-append, none-head, flat_none, flat_part, flat_found, found_none, flat_map-filter}
 
 module _ (words : List ℕ) where
   -- ── what kept rules say ──

@@ -11,32 +11,12 @@ use Rattle.std.proofs.lemmas.List.Concat.{flat_map_single, flat_map-append}
 use Rattle.std.proofs.lemmas.List.FromFn.{length-map-range_with_len, get_or-map-range_with_len}
 use Rattle.pm_model.specs.Places.{below}
 use Rattle.pm_model.specs.Checks.{Check, check, Rule, Keeps, first_failing}
-use Rattle.pm_model.proofs.Faults.{Holds, all_hold}
-
-pub passes : (c : Check) (checks : List Check) → c.holds ≡ true → first_failing (c ∷ checks) ≡ first_failing checks
-passes c checks hit = rw hit refl
-
-pub fails : (c : Check) (checks : List Check) → c.holds ≡ false → first_failing (c ∷ checks) ≡ Some c.place
-fails c checks miss = rw miss refl
+use Rattle.pm_model.proofs.Faults.{Holds, all_hold, passes, fails, pass-all, fail-first}
 
 -- a check alone
 pub lone : (place : ℕ) (holds : Bool) → then_some (not holds) place ≡ first_failing (check place holds ∷ [])
 lone place true = refl
 lone place false = refl
-
-pub pass-all : (xs ys : List Check) → first_failing xs ≡ None → first_failing (xs ++ ys) ≡ first_failing ys
-pass-all [] ys none = refl
-pass-all (c ∷ xs) ys none =
-    ⊎_elim (λ hit. passes c (xs ++ ys) hit ∙ pass-all xs ys (sym (passes c xs hit) ∙ none))
-    (λ miss. absurd (none-some c.place (sym none ∙ fails c xs miss)))
-    (cases_Bool c.holds)
-
-pub fail-first : (xs ys : List Check) (p : ℕ) → first_failing xs ≡ Some p → first_failing (xs ++ ys) ≡ Some p
-fail-first [] ys p some = absurd (none-some p some)
-fail-first (c ∷ xs) ys p some =
-    ⊎_elim (λ hit. passes c (xs ++ ys) hit ∙ fail-first xs ys p (sym (passes c xs hit) ∙ some))
-    (λ miss. fails c (xs ++ ys) miss ∙ sym (fails c xs miss) ∙ some)
-    (cases_Bool c.holds)
 
 -- where none fails, none of the first ones does, and none of the others
 pub none-append : (xs ys : List Check) → first_failing (xs ++ ys) ≡ None → (first_failing xs ≡ None) × (first_failing ys ≡ None)

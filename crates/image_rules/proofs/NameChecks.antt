@@ -10,8 +10,9 @@ use Rattle.pm_model.specs.Records.{column_at, columns_at, column_name_at, table_
 use Rattle.pm_model.specs.Tables.{table_count, table_block, columns_of}
 use Rattle.pm_model.specs.Checks.{Check, check, first_failing}
 use Rattle.pm_model.specs.EntryRules.{name_rule, name_checks, kind_check, is_padded_name_byte}
+use Rattle.pm_model.proofs.Faults.{passes, fails}
 use Rattle.image_rules.specs.Parts.{column_name_checks, table_name_checks}
-use Rattle.image_rules.proofs.Firsts.{passes, fails, map_none, map_some, flat_none, flat_found, found_none, first_of, then_rest}
+use Rattle.image_rules.proofs.Firsts.{map_none, map_some, flat_none, flat_found, found_none, first_of, then_rest}
 
 module _ (words : List ℕ) where
   -- ── a name ──

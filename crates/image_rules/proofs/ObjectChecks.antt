@@ -12,8 +12,9 @@ use Rattle.pm_model.specs.Places.{below, place_in, is_pointer_to, is_null_or_poi
 use Rattle.pm_model.specs.Objects.{segment_pointer_at, segment_of, ready_count}
 use Rattle.pm_model.specs.Checks.{Check, check, first_failing}
 use Rattle.pm_model.specs.EntryRules.{is_segment_pointer, is_among, object_rule, objects_rule}
+use Rattle.pm_model.proofs.Faults.{passes, fails, pass-all, fail-first}
 use Rattle.image_rules.specs.Parts.{segment_checks}
-use Rattle.image_rules.proofs.Firsts.{passes, fails, lone, pass-all, fail-first, map_none, map_some, flat_none, flat_found}
+use Rattle.image_rules.proofs.Firsts.{lone, map_none, map_some, flat_none, flat_found}
 
 -- a value was found exactly where the test doesn't fail
 pub found_true : (b : Bool) → ((true ≡ false → b ≡ false) × (b ≡ false → true ≡ false)) → b ≡ true

@@ -14,9 +14,9 @@ use Rattle.pm_model.specs.Owners.{Owner, word_of, owns_block}
 use Rattle.pm_model.specs.Checks.{Check, check, first_failing}
 use Rattle.pm_model.specs.EntryRules.{is_among}
 use Rattle.pm_model.specs.SoundRules.{distinct_checks}
+use Rattle.pm_model.proofs.Faults.{passes, fails}
 use Rattle.image_rules.specs.declared.owner_words.OwnerWord.{OwnerWord}
 use Rattle.image_rules.specs.BuiltOwners.{as_read, built_owner_words, built_owner_rule, built_single_owner_rule, HasWords}
-use Rattle.image_rules.proofs.Firsts.{passes, fails}
 
 abbrev no_owner : Owner
 no_owner = record { at = 0; block_words = 0 }

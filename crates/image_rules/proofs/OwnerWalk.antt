@@ -1,7 +1,7 @@
 -- The owner words so far, as a walk goes on.
-use Rattle.std.proofs.Common.{◌≡◌, ℕ, ◌+◌, eqb, not, List, [], ◌∷◌, ◌++◌, map, get_or, refl, sym, ◌∙◌, ap, append_assoc, arith}
+use Rattle.std.proofs.Common.{◌≡◌, ℕ, ◌+◌, eqb, not, List, [], ◌∷◌, ◌++◌, map, get_or, sym, ◌∙◌, ap, append_assoc, arith}
 use Rattle.std.specs.Prelude.{filter}
-use Rattle.std.specs.List.{range_with_len, flat_map}
+use Rattle.std.specs.List.{flat_map}
 use Rattle.std.proofs.lemmas.Bool.{eq-eqb, ne_eqb, cond-true, cond-false}
 use Rattle.std.proofs.lemmas.List.{append-nil, map-append}
 use Rattle.std.proofs.lemmas.List.Elements.{filter-append}
@@ -13,15 +13,9 @@ use Rattle.pm_model.specs.Places.{below}
 use Rattle.pm_model.specs.Records.{column_at, columns_at, table_words, created_header, ended_header}
 use Rattle.pm_model.specs.Tables.{table_block, table_count}
 use Rattle.pm_model.specs.Owners.{Owner, owner_of, names_one, array_owners, object_owners}
+use Rattle.pm_model.proofs.Ranges.{below_more}
 use Rattle.image_rules.specs.declared.owner_words.OwnerWord.{OwnerWord}
 use Rattle.image_rules.specs.BuiltOwners.{as_read, built_column_owners, built_block_owners, built_table_owners, built_owner_words}
-
-below-more : (k : ℕ) → below (k + 1) ≡ below k ++ k ∷ []
-below-more k = sym (same (range_with_len 0 (k + 1))) ∙ map-range_with_len_more (λ (x : ℕ). x) 0 k k (omega arith) ∙ ap (λ (xs : List ℕ). xs ++ k ∷ []) (same (below k))
-  where
-    same : (xs : List ℕ) → map (λ (x : ℕ). x) xs ≡ xs
-    same [] = refl
-    same (x ∷ xs) = ap (λ (ys : List ℕ). x ∷ ys) (same xs)
 
 module _ (words : List ℕ) where
   abbrev pub read : List Owner → List OwnerWord
@@ -63,7 +57,7 @@ module _ (words : List ℕ) where
   parts g k = flat_map g (below k)
 
   parts-more : (g : ℕ → List Owner) (k : ℕ) → parts g (k + 1) ≡ parts g k ++ g k
-  parts-more g k = ap (flat_map g) (below-more k) ∙ flat_map-append g (below k) (k ∷ []) ∙ ap (λ (os : List Owner). parts g k ++ os) (append-nil (g k))
+  parts-more g k = ap (flat_map g) (below_more k) ∙ flat_map-append g (below k) (k ∷ []) ∙ ap (λ (os : List Owner). parts g k ++ os) (append-nil (g k))
 
   pub parts_next : (g : ℕ → List Owner) (k : ℕ) (base found more : List OwnerWord) → found ≡ base ++ read (parts g k) → more ≡ found ++ read (g k) → more ≡ base ++ read (parts g (k + 1))
   parts_next g k base found more so_far then = read-append base found more (parts g k) (g k) so_far then ∙ ap (λ (os : List Owner). base ++ read os) (sym (parts-more g k))

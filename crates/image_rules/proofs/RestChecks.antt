@@ -15,8 +15,9 @@ use Rattle.pm_model.specs.Tables.{table_count}
 use Rattle.pm_model.specs.Objects.{ready_count, segment_of, ready_segments, entry_places}
 use Rattle.pm_model.specs.Checks.{Check, first_failing}
 use Rattle.pm_model.specs.SoundRules.{zero_check, idle_rule, closed_rule, given_back_rule}
+use Rattle.pm_model.proofs.Faults.{passes, fails}
 use Rattle.image_rules.specs.Parts.{next_slot_rule, object_zeros}
-use Rattle.image_rules.proofs.Firsts.{passes, fails, lone, map_none, map_some, map_none_from, map_some_from, flat_none, flat_found, found_none, first_of, then_rest, flat_map-filter, map-flat_map, map-range}
+use Rattle.image_rules.proofs.Firsts.{lone, map_none, map_some, map_none_from, map_some_from, flat_none, flat_found, found_none, first_of, then_rest, flat_map-filter, map-flat_map, map-range}
 use Rattle.image_rules.proofs.HeapChecks.{outside, within}
 
 module _ (words : List ℕ) where

@@ -14,20 +14,12 @@ use Rattle.pm_model.specs.Checks.{Check, check, Keeps, first_failing}
 use Rattle.pm_model.specs.SoundRules.{is_created, is_ended, row_checks, row_headers, stamp_checks, stamp_rule}
 use Rattle.image_rules.specs.Stamps.{chunk_place, place_checks}
 use Rattle.pm_model.proofs.ChunkSizes.{capacity_next, capacity-rises, chunk_is}
+use Rattle.pm_model.proofs.Faults.{passes, fails}
+use Rattle.pm_model.proofs.Ranges.{range_append, below_more}
 use Rattle.image_rules.proofs.TableArrays.{array_kept}
-use Rattle.image_rules.proofs.Firsts.{passes, fails, flat_none, flat_found, found_none, map-range}
+use Rattle.image_rules.proofs.Firsts.{flat_none, flat_found, found_none, map-range}
 
 -- ── numbers in runs ──
-
-range-append : (a n m : ℕ) → range_with_len a (n + m) ≡ range_with_len a n ++ range_with_len (a + n) m
-range-append a zero m =
-    let count : zero + m ≡ m = omega arith in
-    let from : a ≡ a + zero = omega arith in
-    ap (range_with_len a) count ∙ ap (λ (x : ℕ). range_with_len x m) from
-range-append a (suc n) m =
-    let count : suc n + m ≡ suc (n + m) = omega arith in
-    let from : a + 1 + n ≡ a + suc n = omega arith in
-    ap (range_with_len a) count ∙ ap (λ (xs : List ℕ). a ∷ xs) (range-append (a + 1) n m ∙ ap (λ (x : ℕ). range_with_len (a + 1) n ++ range_with_len x m) from)
 
 shifted : (f : ℕ → List Check) (n from : ℕ) → flat_map f (range_with_len from n) ≡ flat_map (λ x. f (from + x)) (below n)
 shifted f n from = ap (flat_map f) (sym (map-range (λ x. from + x) n 0 from (λ k lt. omega arith))) ∙ flat_map-map f (λ x. from + x) (below n)
@@ -39,12 +31,11 @@ by_chunks f (suc n) =
     let of_chunk : ℕ → List Check = λ chunk. flat_map f (range_with_len (capacity_of chunk) (chunk_words chunk)) in
     let here : 0 + capacity_of n ≡ capacity_of n = omega arith in
     let one : suc n ≡ n + 1 = omega arith in
-    let last : 0 + n ≡ n = omega arith in
-    ap (flat_map f) (range-append 0 (capacity_of n) (chunk_words n) ∙ ap (λ (x : ℕ). below (capacity_of n) ++ range_with_len x (chunk_words n)) here)
+    ap (flat_map f) (range_append 0 (capacity_of n) (chunk_words n) ∙ ap (λ (x : ℕ). below (capacity_of n) ++ range_with_len x (chunk_words n)) here)
     ∙ flat_map-append f (below (capacity_of n)) (range_with_len (capacity_of n) (chunk_words n))
     ∙ ap (λ (checks : List Check). checks ++ of_chunk n) (by_chunks f n)
     ∙ ap (λ (checks : List Check). flat_map of_chunk (below n) ++ checks) (sym (append-nil (of_chunk n)))
-    ∙ sym (ap (λ (k : ℕ). flat_map of_chunk (below k)) one ∙ ap (flat_map of_chunk) (range-append 0 n 1 ∙ ap (λ (x : ℕ). below n ++ x ∷ []) last) ∙ flat_map-append of_chunk (below n) (n ∷ []))
+    ∙ sym (ap (λ (k : ℕ). flat_map of_chunk (below k)) one ∙ ap (flat_map of_chunk) (below_more n) ∙ flat_map-append of_chunk (below n) (n ∷ []))
 
 most_rows : (a b : ℕ) → max (capacity_of a) (capacity_of b) ≡ capacity_of (max a b)
 most_rows a b = ⊎_elim

@@ -13,12 +13,9 @@ use crate::array_rules::capacity;
 use crate::pointers::pointed_words;
 use crate::table_rules::{columns_of, published_tables, table_block};
 use pm_model::{
-    Place, chunk_capacity, chunk_pointer, chunk_words, codes_header, column, created_header,
-    ended_header, high, last_commit,
+    NO_COMMIT, Place, chunk_capacity, chunk_pointer, chunk_words, codes_header, column,
+    created_header, ended_header, high, last_commit,
 };
-
-// What a row that is dead has for its creator.
-const NO_COMMIT: u64 = u64::MAX;
 
 /// The first word that breaks the rule of stamps: a table's bound on its rows with stamps, where an array has fewer rows,
 /// or a stamp, row by row, that of the row's creation before that of its end. Time as for the rows of each table's two

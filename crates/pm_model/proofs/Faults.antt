@@ -1,13 +1,41 @@
 -- The first fault of an image: there is none exactly where each check of each rule holds.
-use Rattle.std.proofs.Common.{◌≡◌, ⊎_elim, ℕ, true, false, List, [], ◌∷◌, refl}
-use Rattle.std.specs.Prelude.{◌↔◌, All, IsTrue, Option, None, Some, option_map}
+use Rattle.std.proofs.Common.{◌≡◌, ⊎_elim, ℕ, true, false, List, [], ◌∷◌, ◌++◌, map, get_or, refl, sym, ◌∙◌}
+use Rattle.std.specs.Prelude.{◌↔◌, All, Contains, IsTrue, Option, None, Some, option_map}
 use Rattle.std.proofs.lemmas.Bool.{cases_Bool}
-use Rattle.std.proofs.lemmas.List.Elements.{All-nil, All-cons, All-head, All-tail}
+use Rattle.std.proofs.lemmas.List.Elements.{All-nil, All-cons, All-head, All-tail, All-map, Contains-get_or}
+use Rattle.std.proofs.lemmas.Option.{none-some}
 use Rattle.pm_model.specs.Checks.{Check, Keeps, Numbered, Fault, first_failing, or_else, first_fault}
 
 -- the check holds
 abbrev pub Holds : Check → Type 0
 Holds c = IsTrue c.holds
+
+-- each check holds where the checks of a list are made one from each element
+pub mapped_hold : (f : ℕ → Check) (xs : List ℕ) → ((x : ℕ) → Contains xs x → IsTrue (f x).holds) → All Holds (map f xs)
+mapped_hold f xs hold = All-map Holds f xs (λ k d lt. hold (get_or xs k d) (Contains-get_or xs k d lt))
+
+-- ── the first check that fails ──
+
+pub passes : (c : Check) (checks : List Check) → c.holds ≡ true → first_failing (c ∷ checks) ≡ first_failing checks
+passes c checks hit = rw hit refl
+
+pub fails : (c : Check) (checks : List Check) → c.holds ≡ false → first_failing (c ∷ checks) ≡ Some c.place
+fails c checks miss = rw miss refl
+
+-- of checks that are put together, it is one of the others where none of the first ones fails
+pub pass-all : (xs ys : List Check) → first_failing xs ≡ None → first_failing (xs ++ ys) ≡ first_failing ys
+pass-all [] ys none = refl
+pass-all (c ∷ xs) ys none =
+    ⊎_elim (λ hit. passes c (xs ++ ys) hit ∙ pass-all xs ys (sym (passes c xs hit) ∙ none))
+    (λ miss. absurd (none-some c.place (sym none ∙ fails c xs miss)))
+    (cases_Bool c.holds)
+
+pub fail-first : (xs ys : List Check) (p : ℕ) → first_failing xs ≡ Some p → first_failing (xs ++ ys) ≡ Some p
+fail-first [] ys p some = absurd (none-some p some)
+fail-first (c ∷ xs) ys p some =
+    ⊎_elim (λ hit. passes c (xs ++ ys) hit ∙ fail-first xs ys p (sym (passes c xs hit) ∙ some))
+    (λ miss. fails c (xs ++ ys) miss ∙ sym (fails c xs miss) ∙ some)
+    (cases_Bool c.holds)
 
 -- checks that all hold have no first one that fails
 pub first_failing-none : (checks : List Check) → All Holds checks → first_failing checks ≡ None

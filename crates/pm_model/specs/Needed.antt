@@ -2,7 +2,7 @@
 use Rattle.std.specs.Prelude.{ℕ, ◌<◌, Bool, false, ◌||◌, ◌==◌, if◌then◌else◌, List, [], ◌∷◌, ◌++◌, slice_index}
 use Rattle.pm_model.specs.declared.action.Action.{Action}
 use Rattle.pm_model.specs.declared.action.Action.TheVariants.{Store, Flush, Fence, Punch}
-use Rattle.pm_model.specs.Plans.{Part, unless_empty, words_after, footprint}
+use Rattle.pm_model.specs.Plans.{Part, unless_empty, words_after, finished, footprint}
 
 -- a later store of the part writes the word that this one stores to
 abbrev pub is_stored_later : Part → Action → Bool
@@ -30,6 +30,14 @@ needed_parts words [] = []
 needed_parts words (part ∷ parts) =
     let needed = needed_stores words part in
     unless_empty needed ++ needed_parts (words_after needed words) parts
+
+-- the parts that mend something, from the words before it
+abbrev pub Mending : Type 0
+Mending = List ℕ → List Part
+
+-- the words after a mending as opening makes it: of its parts only the stores that are needed, played whole
+abbrev pub after_mending : Mending → List ℕ → List ℕ
+after_mending mending words = finished (needed_parts words (mending words)) words
 
 -- ── parts of stores ──
 

@@ -109,5 +109,9 @@ pub const CLOSED: u64 = 0;
 /// The state of a transaction object whose transaction is open.
 pub const OPEN: u64 = 1;
 
+/// The stamp that a row has for its creator where no commit created it and none will: its transaction was undone. It is
+/// above each number of a commit, so no reader ever sees the row.
+pub const NO_COMMIT: u64 = u64::MAX;
+
 /// The greatest number of a commit: such numbers have 40 bits.
 pub const MAX_COMMITS: u64 = (1 << 40) - 1;

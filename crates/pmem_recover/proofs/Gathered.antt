@@ -1,21 +1,19 @@
 -- The entries of an object: its segments lie in the image, and the places of the entries are gathered piece by piece.
-use Rattle.std.proofs.Common.{◌≡◌, ℕ, ◌+◌, ◌-◌, ◌%◌, ◌^◌, ◌<◌, ◌≤◌, Bool, true, min, leb, List, [], ◌∷◌, ◌++◌, length, get_or, map, refl, sym, ◌∙◌, ap, subst, append_assoc, arith}
-use Rattle.std.specs.Prelude.{IsTrue, filter}
-use Rattle.std.specs.List.{Contains}
+use Rattle.std.proofs.Common.{◌≡◌, ℕ, ◌+◌, ◌-◌, ◌%◌, ◌<◌, ◌≤◌, Bool, true, List, [], ◌∷◌, ◌++◌, length, get_or, map, sym, ◌∙◌, ap, subst, append_assoc, arith}
+use Rattle.std.specs.Prelude.{filter}
 use Rattle.std.specs.List.{flat_map}
-use Rattle.std.proofs.lemmas.Bool.{and_parts, leb-true}
 use Rattle.std.proofs.lemmas.List.{append-nil}
-use Rattle.std.proofs.lemmas.List.Elements.{All-contains, Contains-append_left, filter-append}
+use Rattle.std.proofs.lemmas.List.Elements.{filter-append}
 use Rattle.std.proofs.lemmas.List.FromFn.{map-range_with_len_more}
 use Rattle.std.proofs.lemmas.Grind.{flat_map-append}
-use Rattle.pm_model.specs.Fixed.{entry_at, ready_at, state_at, commit_word_at, last_at}
-use Rattle.pm_model.specs.Places.{below, is_pointer, is_pointer_to, is_null_or_pointer_to, is_in_segment}
+use Rattle.pm_model.specs.Fixed.{entry_at}
+use Rattle.pm_model.specs.Places.{below, is_pointer}
 use Rattle.pm_model.specs.Records.{segment_entry_at}
-use Rattle.pm_model.specs.Objects.{entry_places, commit_word, pointer_after, ready_count, segment_pointer_at, segment_of}
-use Rattle.pm_model.specs.Checks.{Check, check, Keeps}
-use Rattle.pm_model.specs.EntryRules.{objects_rule, object_rule, is_segment_pointer}
-use Rattle.pm_model.proofs.Members.{below-Contains, map-Contains, flat_map-Contains, Contains-there, Contains-here}
-use Rattle.shown_state.proofs.LaneMending.{pointer_parts}
+use Rattle.pm_model.specs.Objects.{entry_places, ready_count, segment_pointer_at, segment_of}
+use Rattle.pm_model.specs.Checks.{Keeps}
+use Rattle.pm_model.specs.EntryRules.{objects_rule, object_rule}
+use Rattle.pm_model.proofs.OwnedBlocks.{one_object}
+use Rattle.txn_object.proofs.Rule.{at_most_32, named}
 
 -- ── places gathered one by one ──
 
@@ -60,66 +58,20 @@ unfolding entries_up_to
 segments-none test words object before after none is =
     is ∙ ap (λ (xs : List ℕ). xs ++ filter test (map (entry_at object) (below 60))) none ∙ ap (filter test) (sym (append-nil (map (entry_at object) (below 60))))
 
--- what rule 14 says of an object
-ready_check : List ℕ → ℕ → Check
-ready_check words object = check (ready_at object) (leb (ready_count words object) 32)
-
-pointer_check : List ℕ → ℕ → ℕ → Check
-pointer_check words object segment = check (segment_pointer_at words object segment) (is_segment_pointer words object segment)
-
--- the checks before the one of the ready count, those of the segments, and the last one
-record Checks (words : List ℕ) (object : ℕ) : Type 0 where
-  first : Check
-  second : Check
-  last : Check
-  are : object_rule object words ≡ first ∷ second ∷ ready_check words object ∷ (map (pointer_check words object) (below (ready_count words object)) ++ last ∷ [])
-
-checks_of : (words : List ℕ) (object : ℕ) → Checks words object
-unfolding object_rule ready_check pointer_check
-checks_of words object = record {
-  first = check (state_at object) (leb (get_or words (state_at object) 0) 1);
-  second = check (commit_word_at object) (leb (commit_word words object) (min (get_or words last_at 0 + 1) (2 ^ 40 - 1)));
-  last = check (pointer_after words object) (is_null_or_pointer_to words 256 (get_or words (pointer_after words object) 0));
-  are = refl;
-}
-
 module _ (words : List ℕ) (keeps : Keeps words objects_rule) (object : ℕ) (number : object < 16) where
-  object_check : (c : Check) → Contains (object_rule object words) c → c.holds ≡ true
-  unfolding objects_rule
-  object_check c in_object = All-contains (λ (c : Check). IsTrue c.holds) (objects_rule words) c keeps.checks (flat_map-Contains (λ o. object_rule o words) (below 16) object c (below-Contains 16 object number) in_object)
-
-  among : (c : Check) → ((all : Checks words object) → Contains (all.first ∷ all.second ∷ ready_check words object ∷ (map (pointer_check words object) (below (ready_count words object)) ++ all.last ∷ [])) c) → c.holds ≡ true
-  among c is = let all = checks_of words object in object_check c (subst (λ (cs : List Check). Contains cs c) (sym all.are) (is all))
+  rule : Keeps words (object_rule object)
+  rule = one_object words object keeps number
 
   pub ready-few : ready_count words object ≤ 32
-  unfolding ready_check
-  ready-few = leb-true (ready_count words object) 32 (among (ready_check words object) (λ all.
-      Contains-there all.first (ready_check words object) (all.second ∷ ready_check words object ∷ (map (pointer_check words object) (below (ready_count words object)) ++ all.last ∷ []))
-      (Contains-there all.second (ready_check words object) (ready_check words object ∷ (map (pointer_check words object) (below (ready_count words object)) ++ all.last ∷ []))
-      (Contains-here (ready_check words object) (map (pointer_check words object) (below (ready_count words object)) ++ all.last ∷ [])))))
-
-  segment_check : (segment : ℕ) → segment < ready_count words object → is_segment_pointer words object segment ≡ true
-  unfolding pointer_check
-  segment_check segment lt = among (pointer_check words object segment) (λ all.
-      Contains-there all.first (pointer_check words object segment) (all.second ∷ ready_check words object ∷ (map (pointer_check words object) (below (ready_count words object)) ++ all.last ∷ []))
-      (Contains-there all.second (pointer_check words object segment) (ready_check words object ∷ (map (pointer_check words object) (below (ready_count words object)) ++ all.last ∷ []))
-      (Contains-there (ready_check words object) (pointer_check words object segment) (map (pointer_check words object) (below (ready_count words object)) ++ all.last ∷ [])
-      (Contains-append_left (map (pointer_check words object) (below (ready_count words object))) (all.last ∷ []) (pointer_check words object segment)
-      (map-Contains (pointer_check words object) (below (ready_count words object)) segment (below-Contains (ready_count words object) segment lt))))))
-
-  segment_parts : (segment : ℕ) → segment < ready_count words object → (is_pointer words (get_or words (segment_pointer_at words object segment) 0) ≡ true) × (segment_of words object segment % 32768 + 256 ≤ 32768)
-  segment_parts segment lt =
-      let outer = and_parts (is_pointer_to words 256 (get_or words (segment_pointer_at words object segment) 0)) _ (segment_check segment lt) in
-      let inner = and_parts (is_pointer words (get_or words (segment_pointer_at words object segment) 0)) (is_in_segment (segment_of words object segment) 256) outer.0 in
-      (inner.0, leb-true _ _ inner.1)
+  ready-few = at_most_32 words object rule
 
   pub segment-pointer : (segment at : ℕ) → segment < ready_count words object → at ≡ segment_pointer_at words object segment → is_pointer words (get_or words at 0) ≡ true
-  segment-pointer segment at lt is = ap (λ (k : ℕ). is_pointer words (get_or words k 0)) is ∙ (segment_parts segment lt).0
+  segment-pointer segment at lt is = ap (λ (k : ℕ). is_pointer words (get_or words k 0)) is ∙ (named words object rule segment lt).is_one
 
   -- a segment stands in the image
   pub segment-within : (segment place : ℕ) → length words % 32768 ≡ 0 → segment < ready_count words object → place ≡ segment_of words object segment → place + 256 ≤ length words
   segment-within segment place whole lt is =
-      let parts = segment_parts segment lt in
-      let inside = (pointer_parts words (get_or words (segment_pointer_at words object segment) 0) parts.0).1 in
-      let room = parts.1 in
+      let it = named words object rule segment lt in
+      let inside = it.begins in
+      let room = it.in_segment in
       subst (λ (k : ℕ). k + 256 ≤ length words) (sym is) (omega (arith, inside, room, whole))

@@ -2,8 +2,7 @@
 use Rattle.std.specs.Prelude.{◌≡◌, ◌≢◌, ℕ, ◌<◌, ◌≤◌, List, []}
 use Rattle.pm_model.specs.declared.action.Action.{Action}
 use Rattle.pm_model.specs.Plans.{Part, plan_of}
-use Rattle.pm_model.specs.Needed.{needed_parts}
-use Rattle.shown_state.specs.Mending.{Mending}
+use Rattle.pm_model.specs.Needed.{needed_parts, Mending}
 
 -- the parts that mend what has a number, on these words: of the mending's parts the stores that are needed
 unfoldable pub step_parts : (ℕ → Mending) → List ℕ → ℕ → List Part

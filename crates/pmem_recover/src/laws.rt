@@ -6,10 +6,11 @@ ghost use Rattle.pm_model.specs.Fixed.{lane_op_at};
 ghost use Rattle.pm_model.specs.Checks.{Keeps, Numbered, first_fault};
 ghost use Rattle.pm_model.specs.EntryRules.{KeepsEntryRules};
 ghost use Rattle.pm_model.specs.Owners.{OwnersAreApart};
+ghost use Rattle.pm_model.specs.Needed.{after_mending};
 ghost use Rattle.pm_model.specs.Plans.{Play, IsPlan, IsPlaying, IsCrashImageWithin, IsTakenBack, EachCut};
 ghost use Rattle.heap_palloc.specs.Lane.{mended_lane};
 ghost use Rattle.shown_state.specs.LaneRules.{KeepsLaneRules, MayMend};
-ghost use Rattle.shown_state.specs.Mending.{after_mending, lane_mending};
+ghost use Rattle.shown_state.specs.Mending.{lane_mending};
 ghost use Rattle.pmem_recover.specs.EntryRules.{entry_rules};
 ghost use Rattle.pmem_recover.specs.Steps.{step_parts};
 

@@ -16,15 +16,13 @@ use crate::change::Change;
 use crate::entries::filled_entries;
 use crate::part::push_parts;
 use pm_model::{
-    CLOSED, Memory, NoMemory, OBJECTS, OPEN, Place, Plan, TABLES, commit_word, created_header,
-    ended_header, high, last_commit, named_place, object_state, table_count, table_slot,
+    CLOSED, Memory, NO_COMMIT, NoMemory, OBJECTS, OPEN, Place, Plan, TABLES, commit_word,
+    created_header, ended_header, high, last_commit, named_place, object_state, table_count,
+    table_slot,
 };
 use seg_array::place_of;
 use std::alloc::Global;
 use txn_object::{Entry, EntryKind};
-
-// The stamp of a row that no commit created.
-const NO_COMMIT: u64 = u64::MAX;
 
 /// The first object from `from` on that is open and has no commit word, with the plan that takes its transaction back:
 /// one part in which each row that it created and no commit did gets the stamp of a dead row, each row that it ended and

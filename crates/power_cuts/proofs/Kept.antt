@@ -1,64 +1,38 @@
 -- An image that is accepted keeps the rules on which the steps of opening and the plans of changes rely.
-use Rattle.std.proofs.Common.{◌≡◌, ℕ, ◌<◌, List, [], length, get_or, map, sym, ◌∙◌, ap, subst, arith}
+use Rattle.std.proofs.Common.{◌≡◌, ℕ, List, [], length, get_or, map, sym, ◌∙◌, ap, subst, arith}
 use Rattle.std.specs.Prelude.{None, All}
 use Rattle.std.proofs.lemmas.List.{length-map}
 use Rattle.std.proofs.lemmas.List.FromFn.{length-range_with_len}
-use Rattle.std.proofs.lemmas.List.Elements.{All-contains, All-nil, Contains-get_or}
+use Rattle.std.proofs.lemmas.List.Elements.{All-nil}
 use Rattle.pm_model.specs.Fixed.{lane_op_at, ready_at, first_segment_at, table_count_at, table_slot_at}
 use Rattle.pm_model.specs.Places.{below}
 use Rattle.pm_model.specs.Objects.{segment_pointer_at}
 use Rattle.pm_model.specs.Checks.{Keeps, first_fault}
 use Rattle.pm_model.specs.HeapRules.{reserved_rule}
-use Rattle.pm_model.specs.EntryRules.{table_count_rule, table_slot_rule, object_rule, objects_rule}
+use Rattle.pm_model.specs.EntryRules.{table_count_rule, table_slot_rule, objects_rule}
 use Rattle.pm_model.specs.SoundRules.{table_name_checks, distinct_name_rule}
 use Rattle.pm_model.specs.Tables.{table_block}
 use Rattle.pm_model.proofs.Faults.{Holds, keeps_all}
-use Rattle.pm_model.proofs.Members.{below-Contains, flat_map-Contains}
+use Rattle.pm_model.proofs.OwnedBlocks.{one_object}
 use Rattle.heap_palloc.specs.Index.{HeapIndex, IsIndexOf}
 use Rattle.heap_palloc.specs.Calls.{KeepsHeapRules}
 use Rattle.txn_object.specs.Calls.{MayPlanExtension}
 use Rattle.catalog.specs.Entries.{CatalogTable, published_table, published_tables, KeepsTableRules}
 use Rattle.catalog.specs.Calls.{MayPlanCreation}
 use Rattle.pmem_recover.specs.EntryRules.{entry_rules}
-use Rattle.pmem_recover.specs.Undo.{KeepsUndoRules}
+use Rattle.pmem_recover.proofs.FirstFault.{entry-lanes}
 
 pub keeps_table_count : (words : List ℕ) → first_fault entry_rules words ≡ None → Keeps words table_count_rule
 keeps_table_count words none = keeps_all entry_rules words none 3 (record { number = 0; rule = reserved_rule }) (omega arith)
 
 pub keeps_heap : (words : List ℕ) → first_fault entry_rules words ≡ None → KeepsHeapRules words
-keeps_heap words none =
-    let kept = keeps_all entry_rules words none in
-    record {
-      reserved = kept 4 (record { number = 0; rule = reserved_rule }) (omega arith);
-      descriptors = kept 5 (record { number = 0; rule = reserved_rule }) (omega arith);
-      bitmaps = kept 6 (record { number = 0; rule = reserved_rule }) (omega arith);
-    }
+keeps_heap words none = (entry-lanes words none).heap
 
 pub keeps_table_slots : (words : List ℕ) → first_fault entry_rules words ≡ None → Keeps words table_slot_rule
 keeps_table_slots words none = keeps_all entry_rules words none 8 (record { number = 0; rule = reserved_rule }) (omega arith)
 
 pub keeps_objects : (words : List ℕ) → first_fault entry_rules words ≡ None → Keeps words objects_rule
 keeps_objects words none = keeps_all entry_rules words none 11 (record { number = 0; rule = reserved_rule }) (omega arith)
-
-pub keeps_undo : (words : List ℕ) → first_fault entry_rules words ≡ None → KeepsUndoRules words
-keeps_undo words none =
-    let kept = keeps_all entry_rules words none in
-    record {
-      table_count = keeps_table_count words none;
-      table_slots = keeps_table_slots words none;
-      arrays = kept 9 (record { number = 0; rule = reserved_rule }) (omega arith);
-      objects = keeps_objects words none;
-      entries = kept 12 (record { number = 0; rule = reserved_rule }) (omega arith);
-    }
-
-pub keeps_object : (words : List ℕ) (object : ℕ) → object < 16 → Keeps words objects_rule → Keeps words (object_rule object)
-unfolding objects_rule
-keeps_object words object lt keeps = record {
-  checks = λ k d within.
-      All-contains Holds (objects_rule words) (get_or (object_rule object words) k d) keeps.checks
-      (flat_map-Contains (λ other. object_rule other words) (below 16) object (get_or (object_rule object words) k d) (below-Contains 16 object lt)
-      (Contains-get_or (object_rule object words) k d within));
-}
 
 -- an object without segments may be extended
 pub may_extend : (words : List ℕ) (index : HeapIndex) → first_fault entry_rules words ≡ None → get_or words (lane_op_at 0) 0 ≡ 0 → get_or words (ready_at 0) 0 ≡ 0 → get_or words (first_segment_at 0) 0 ≡ 0 → IsIndexOf words index → MayPlanExtension words index 0
@@ -67,7 +41,7 @@ may_extend words index none idle ready pointer index_of =
     record {
       segments = record {
         rules = keeps_heap words none;
-        rule = keeps_object words 0 (omega arith) (keeps_objects words none);
+        rule = one_object words 0 (keeps_objects words none) (omega arith);
         live = λ segment lt. absurd (omega arith);
       };
       index_of = index_of;

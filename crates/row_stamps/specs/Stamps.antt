@@ -1,11 +1,7 @@
 -- The stamps of a row. One has the number of the commit that created the row, and the other that of the commit that ended
 -- it; each is 0 where there is none. Commits are numbered from 1.
-use Rattle.std.specs.Prelude.{◌≡◌, ◌⊎◌, ◌↔◌, ℕ, ◌+◌, ◌-◌, ◌^◌, ◌<◌, ◌≤◌, List, Some, Contains, slice_get}
+use Rattle.std.specs.Prelude.{◌≡◌, ◌⊎◌, ◌↔◌, ℕ, ◌+◌, ◌<◌, ◌≤◌, List, Some, Contains, slice_get}
 use Rattle.std.specs.List.{flat_map}
-
--- the stamp of a row that no commit created and none ever will
-abbrev pub dead_stamp : ℕ
-dead_stamp = 2 ^ 64 - 1
 
 -- what a reader of the first commits, so many of them, sees: one of them created the row, and none of them ended it
 pub record IsVisible (created ended snapshot : ℕ) : Type 0 where

@@ -1,11 +1,9 @@
 ghost use Rattle.std.specs.Prelude.{◌≡◌, ◌+◌, ◌<◌, ◌↔◌, ◌++◌, [], ◌∷◌, IsTrue};
 ghost use Rattle.pm_model.specs.Plans.{store};
-ghost use Rattle.row_stamps.specs.Stamps.{dead_stamp, IsVisible};
+ghost use Rattle.pm_model.specs.SoundRules.{no_commit};
+ghost use Rattle.row_stamps.specs.Stamps.{IsVisible};
 
-use pm_model::{Action, Place, Plan};
-
-// The stamp of a row that no commit created and none ever will.
-const DEAD: u64 = u64::MAX;
+use pm_model::{Action, NO_COMMIT, Place, Plan};
 
 /// Whether a reader of the first `snapshot` commits sees a row that commit `b` created and commit `e` ended, each 0 where
 /// none did.
@@ -28,8 +26,8 @@ pub fn push_stamp(plan: &mut Plan, place: Place, k: u64)
 /// no part.
 pub fn push_dead(plan: &mut Plan, place: Place)
     requires { 0 < plan.old.spare }
-    ensures left { plan.new.left ≡ plan.old.left ++ store place.0 dead_stamp ∷ [] }
+    ensures left { plan.new.left ≡ plan.old.left ++ store place.0 no_commit ∷ [] }
     ensures spare { plan.new.spare + 1 ≡ plan.old.spare }
 {
-    push_stamp(plan, place, DEAD);
+    push_stamp(plan, place, NO_COMMIT);
 }

@@ -1,9 +1,8 @@
 -- Once a growth was played, the rules of the heap and of the array hold again, and the next one may be planned.
-use Rattle.std.proofs.Common.{◌≡◌, ◌≢◌, ⊎_elim, ℕ, ◌+◌, ◌/◌, ◌%◌, ◌<◌, ◌≤◌, min, Bool, true, false, ◌&&◌, eqb, ltb, leb, cond, List, ◌∷◌, ◌++◌, length, get_or, refl, sym, ◌∙◌, ap, subst, arith}
+use Rattle.std.proofs.Common.{◌≡◌, ◌≢◌, ⊎_elim, ℕ, ◌+◌, ◌%◌, ◌<◌, ◌≤◌, min, Bool, true, false, ◌&&◌, eqb, ltb, leb, cond, List, length, get_or, refl, sym, ◌∙◌, ap, subst, arith}
 use Rattle.std.specs.Prelude.{Contains}
 use Rattle.std.proofs.lemmas.Nat.{pow_pos}
 use Rattle.std.proofs.lemmas.Bool.{cases_eq, cases_lt, cond-true, cond-false, lt-ltb, le-ltb, le-leb, eq-eqb, and_from}
-use Rattle.std.proofs.lemmas.List.Elements.{Contains-append_left, Contains-append_right, Contains-append_cases}
 use Rattle.pm_model.specs.declared.action.Action.{Action}
 use Rattle.pm_model.specs.Fixed.{lane_op_at}
 use Rattle.pm_model.specs.Pointer.{pointer_word}
@@ -11,36 +10,19 @@ use Rattle.pm_model.specs.Places.{page_at, place_in, is_pointer_to, is_null_or_p
 use Rattle.pm_model.specs.Plans.{finished}
 use Rattle.pm_model.specs.Blocks.{Block, live_blocks}
 use Rattle.pm_model.specs.Checks.{Keeps}
-use Rattle.pm_model.proofs.Members.{Contains-there}
-use Rattle.heap_palloc.specs.Shown.{GainsOne}
 use Rattle.heap_palloc.specs.Index.{HeapIndex}
 use Rattle.heap_palloc.specs.Choice.{in_run}
 use Rattle.heap_palloc.specs.Calls.{KeepsHeapRules}
-use Rattle.heap_palloc.proofs.LiveBlocks.{SameHeap, inside_from, is_inside-same}
-use Rattle.heap_palloc.proofs.RulesKept.{rules_from, rules_at, kept_same, choice_rules}
+use Rattle.heap_palloc.proofs.RulesKept.{choice_rules}
 use Rattle.heap_palloc.proofs.Stages.{place_in-pointer}
+use Rattle.heap_palloc.proofs.SameHeaps.{rules_same}
+use Rattle.heap_palloc.proofs.Owners.{more_live}
 use Rattle.pm_model.specs.Arrays.{chunk_pages, chunk_words, chunk_count, chunk_pointer_at, is_chunk_pointer, array_rule}
 use Rattle.seg_array.specs.Growth.{Growth, next_pointer_at, next_chunk, chunk_block, growth_parts, MayGrow}
 use Rattle.seg_array.specs.Calls.{MayPlanGrowth, IsGrowthPlanned}
 use Rattle.seg_array.proofs.Headers.{pointer_rule, behind_null, array_from, points_same}
 use Rattle.seg_array.proofs.Growing.{header_elsewhere, header_outside, in_image, in_segment, ends_count, ends_idle, ends_heap}
 use Rattle.seg_array.proofs.Whole.{taken, taken_at, owned_at, growth_ended, growth_allocates, growth_owned}
-
--- the heap's rules are read from the descriptors and the bitmaps of small pages
-pub rules_same : (old new : List ℕ) → SameHeap old new → KeepsHeapRules old → KeepsHeapRules new
-rules_same old new same rules = rules_from new (λ page lt.
-    kept_same old new page (is_inside-same old new (inside_from old new (λ p. (same.pages p).descriptor)) page) (same.pages page).descriptor (same.pages page).bitmap
-    (rules_at old rules page (subst (λ (n : ℕ). page < n / 512) same.size lt)))
-
--- one block more, and the others as they were
-gained_kept : (old new : List Block) (one block : Block) → GainsOne old one new → Contains old block → Contains new block
-gained_kept old new one block gains is =
-    let split : Contains (gains.front ++ gains.back) block = subst (λ (xs : List Block). Contains xs block) gains.old_is is in
-    subst (λ (xs : List Block). Contains xs block) (sym gains.new_is)
-    (⊎_elim
-    (λ front. Contains-append_left gains.front (one ∷ gains.back) block front)
-    (λ back. Contains-append_right gains.front (one ∷ gains.back) block (Contains-there one block gains.back back))
-    (Contains-append_cases gains.front gains.back block split))
 
 -- the pointer of a place of the image points to words of its segment
 pub points_at : (place words size : ℕ) → place < size → place % 32768 + words ≤ 32768
@@ -127,7 +109,7 @@ module _ (base : List ℕ) (g : Growth) (may : MayGrow base g) where
 
   pub growth_live : (block : Block) → Contains (live_blocks base) block → Contains (live_blocks (finished (growth_parts base g) base)) block
   growth_live block is = ⊎_elim
-      (λ none. gained_kept (live_blocks base) (live_blocks (finished (growth_parts base g) base)) (chunk_block (next_chunk base g)) block (growth_allocates base g may none) is)
+      (λ none. more_live (live_blocks base) (live_blocks (finished (growth_parts base g) base)) (chunk_block (next_chunk base g)) block (growth_allocates base g may none) is)
       (λ some. subst (λ (xs : List Block). Contains xs block) (sym (growth_owned base g may some)) is)
       (cases_eq (get_or base (next_pointer_at base g.header) 0) 0)
 

@@ -18,18 +18,16 @@ use Rattle.heap_palloc.specs.Law.{IsOwnerPlace, IsHeapPage, Pages, pages_allocat
 use Rattle.heap_palloc.specs.Index.{HeapIndex, IsIndexOf}
 use Rattle.heap_palloc.specs.Choice.{Choice, in_page, on_new_page, in_run, IsThrough, IsChosen}
 use Rattle.heap_palloc.specs.Calls.{IsDest, MayCall, IsPlanned, IsAllocated}
-use Rattle.heap_palloc.proofs.LiveBlocks.{SameHeap, inside_from, is_inside-same, is_small_page-same}
-use Rattle.heap_palloc.proofs.Rooms.{free-same, room-same, rooms_kept}
-use Rattle.heap_palloc.proofs.Reindex.{runs_of, runs_kept}
 use Rattle.heap_palloc.proofs.BigBlocks.{run_was_free}
 use Rattle.heap_palloc.proofs.BigPlans.{take_heads}
 use Rattle.heap_palloc.proofs.GivenBack.{cleaned, cleaned_forgets, cleaned_may, forgets_free}
 use Rattle.heap_palloc.proofs.Dests.{dest_place, big_heap_page}
+use Rattle.heap_palloc.proofs.SameHeaps.{index_kept}
+use Rattle.heap_palloc.proofs.Lengths.{taking_length}
 use Rattle.pm_model.specs.Arrays.{chunk_pages, chunk_words, chunk_count}
 use Rattle.seg_array.specs.Growth.{Growth, next_pointer_at, next_chunk, allocating_parts, publishing_parts, growth_parts, MayGrow}
 use Rattle.seg_array.specs.Calls.{MayPlanGrowth, OwnsNext, IsChunkPlanned, IsGrowthPlanned}
 use Rattle.seg_array.proofs.Headers.{NamesChunk, owned, at_most_12}
-use Rattle.seg_array.proofs.Lengths.{taking_length}
 use Rattle.seg_array.proofs.Growing.{in_image, ends_heap}
 use Rattle.seg_array.proofs.Whole.{taking_is, owning_is, taken, taken_at, owned_at, owner_some}
 
@@ -45,18 +43,6 @@ pages_most chunk = pow_mono (at_most_5 (min chunk 5) chunk refl)
     at_most_5 m k e = omega (arith, e)
 
 -- ── the index of the heap ──
-
-pub index_kept : (old new : List ℕ) (index : HeapIndex) → SameHeap old new → IsIndexOf old index → IsIndexOf new index
-index_kept old new index same is =
-    let inside = inside_from old new (λ page. (same.pages page).descriptor) in
-    let runs = runs_kept old new same.size index.free (runs_of old index is) (λ page. free-same old new page (is_inside-same old new inside page) (same.pages page).descriptor) in
-    record {
-      well_formed = runs.well_formed;
-      pages = runs.pages;
-      runs = runs.each;
-      rooms = λ class lt. is.rooms class lt ∙ rooms_kept old new class same.size
-          (λ page. room-same old new page class (is_small_page-same old new inside page (same.pages page).descriptor) (same.pages page).descriptor (same.pages page).bitmap);
-    }
 
 pub growth_index : (words : List ℕ) (g : Growth) (index : HeapIndex) → MayGrow words g → IsIndexOf (finished (allocating_parts words (next_chunk words g)) words) index → IsIndexOf (finished (growth_parts words g) words) index
 growth_index words g index may is = ⊎_elim

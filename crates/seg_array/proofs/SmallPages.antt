@@ -1,11 +1,12 @@
 -- The allocation of a big block makes no page small.
 use Rattle.std.proofs.Common.{◌≡◌, ◌≢◌, ◌⊎◌, inl, inr, ⊎_elim, ℕ, ◌+◌, ◌-◌, ◌/◌, ◌%◌, ◌<◌, ◌≤◌, true, false, not, leb, List, length, set, sym, ◌∙◌, ap, subst, arith}
 use Rattle.std.proofs.lemmas.List.{get_or-set_same, get_or-set_other, length-set, get_or_past}
-use Rattle.std.proofs.lemmas.Bool.{cases_eq, cases_lt, both_ways, not-true, not_from_false, and_right, and_parts, and_from, leb-true}
+use Rattle.std.proofs.lemmas.Bool.{cases_eq, cases_lt, both_ways, not-true, not_from_false, and_right, and_parts, and_from}
 use Rattle.pm_model.specs.Fixed.{descriptor_at}
 use Rattle.pm_model.specs.Places.{page_at}
 use Rattle.pm_model.specs.Plans.{finished}
 use Rattle.pm_model.specs.Blocks.{says_small, descriptor_of, bitmap_of, is_inside, is_free_page, is_small_page}
+use Rattle.pm_model.proofs.Heap.{small_class}
 use Rattle.heap_palloc.specs.Parts.{allocation_parts, big_allocation_parts}
 use Rattle.heap_palloc.specs.Law.{Pages, pages_allocation, MayTakeRun}
 use Rattle.heap_palloc.proofs.LiveBlocks.{SameInside, is_inside-same, is_small_page-same}
@@ -13,15 +14,12 @@ use Rattle.heap_palloc.proofs.BigBlocks.{HeadsRun, elsewhere_free}
 use Rattle.heap_palloc.proofs.BigPlans.{take_heads}
 use Rattle.heap_palloc.proofs.GivenBack.{cleaned, cleaned_forgets, cleaned_may, take_run_words, forgets-small}
 
-small_bounds : (d : ℕ) → says_small d ≡ true → (2 ≤ d) × (d ≤ 7)
-small_bounds d h = let parts = and_parts (leb 2 d) (leb d 7) h in (leb-true 2 d parts.0, leb-true d 7 parts.1)
-
 module _ (old new : List ℕ) (first pages : ℕ) (run : HeadsRun old new first pages) (page : ℕ) (header : 0 < page % 64) (small : is_small_page new page ≡ true) where
   parts : (not (is_inside new page) ≡ true) × (says_small (descriptor_of new page) ≡ true)
   parts = and_parts (not (is_inside new page)) (says_small (descriptor_of new page)) small
 
   low : (2 ≤ descriptor_of new page) × (descriptor_of new page ≤ 7)
-  low = small_bounds (descriptor_of new page) parts.1
+  low = small_class (descriptor_of new page) parts.1
 
   no_head : page ≢ first
   no_head e = let same = ap (descriptor_of new) e in omega (arith, same, run.head, low.1, run.some)

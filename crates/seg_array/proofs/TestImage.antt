@@ -22,13 +22,14 @@ use Rattle.heap_palloc.proofs.BigBlocks.{HeadsRun}
 use Rattle.heap_palloc.proofs.LiveBlocks.{SameHeap}
 use Rattle.heap_palloc.proofs.RulesKept.{heads_rules, fresh_rules}
 use Rattle.heap_palloc.proofs.Settled.{whole_may, whole_played}
+use Rattle.heap_palloc.proofs.SameHeaps.{rules_same}
 use Rattle.pm_model.specs.Arrays.{chunk_words, chunk_count, chunk_pointer_at, is_chunk_pointer, array_rule}
 use Rattle.seg_array.specs.Growth.{next_pointer_at, growth_parts}
 use Rattle.seg_array.specs.Calls.{MayPlanGrowth, IsGrowthPlanned}
 use Rattle.seg_array.specs.TestImage.{test_image, owned_image, IsReady}
 use Rattle.seg_array.proofs.Headers.{array_from}
 use Rattle.seg_array.proofs.Whole.{growth_plan}
-use Rattle.seg_array.proofs.Again.{rules_same, points_at, growth_again}
+use Rattle.seg_array.proofs.Again.{points_at, growth_again}
 
 -- ── single words of any image ──
 

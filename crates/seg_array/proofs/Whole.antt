@@ -1,7 +1,5 @@
 -- The growth of an array as a whole: the chunk allocated or owned already, and then published.
-use Rattle.std.proofs.Common.{◌≡◌, ◌≢◌, ◌⊎◌, inl, inr, ⊎_elim, ℕ, ◌+◌, ◌*◌, ◌/◌, ◌%◌, ◌<◌, eqb, List, [], ◌∷◌, ◌++◌, length, get_or, refl, sym, ◌∙◌, ap, subst, arith}
-use Rattle.std.specs.Prelude.{Contains}
-use Rattle.std.proofs.lemmas.List.Elements.{Contains-append_right}
+use Rattle.std.proofs.Common.{◌≡◌, ◌≢◌, ◌⊎◌, inl, inr, ⊎_elim, ℕ, ◌+◌, ◌*◌, ◌/◌, ◌%◌, ◌<◌, eqb, List, [], ◌++◌, length, get_or, refl, sym, ◌∙◌, ap, subst, arith}
 use Rattle.std.proofs.lemmas.Bool.{cond-true, cond-false, eq-eqb, ne_eqb}
 use Rattle.pm_model.specs.declared.action.Action.{Action}
 use Rattle.pm_model.specs.Pointer.{pointer_word}
@@ -11,7 +9,6 @@ use Rattle.pm_model.specs.Plans.{Part, EachCut, IsPlan, finished, Play, IsPlayin
 use Rattle.pm_model.specs.Blocks.{Block, live_blocks}
 use Rattle.pm_model.proofs.Cuts.{store_part, finished-append, plan-append, each_cut-append, each_cut-map}
 use Rattle.pm_model.proofs.PlanLaw.{plan_survives_parts, plan_ended_parts}
-use Rattle.pm_model.proofs.Members.{Contains-here}
 use Rattle.heap_palloc.specs.Lane.{mended_lane}
 use Rattle.heap_palloc.specs.Parts.{big_allocation_parts}
 use Rattle.heap_palloc.specs.Shown.{GainsOne}
@@ -19,6 +16,7 @@ use Rattle.heap_palloc.specs.Law.{Shows, Allocates, IsOwnerPlace, Pages, pages_a
 use Rattle.heap_palloc.proofs.Stages.{pointer-some}
 use Rattle.heap_palloc.proofs.Changes.{change_settles}
 use Rattle.heap_palloc.proofs.GivenBack.{take_run_plan, take_run_allocates}
+use Rattle.heap_palloc.proofs.Settled.{gained_live}
 use Rattle.pm_model.specs.Arrays.{chunk_pages, chunk_count}
 use Rattle.seg_array.specs.Growth.{Growth, next_pointer_at, next_chunk, chunk_block, allocating_parts, publishing_parts, growth_parts, OwnsChunk, MayGrow}
 use Rattle.seg_array.specs.Shown.{IsUngrown, IsGrown}
@@ -106,9 +104,6 @@ module _ (base : List ℕ) (g : Growth) (may : MayGrow base g) where
     unfolding taking
     gained = allocates.gains
 
-    gained-contains : {A : Type 0} (old : List A) (one : A) (new : List A) → GainsOne old one new → Contains new one
-    gained-contains old one new gains = subst (λ (xs : List _). Contains xs one) (sym gains.new_is) (Contains-append_right gains.front (one ∷ gains.back) one (Contains-here one gains.back))
-
     pub taken_at : AtChunk base g may taken
     unfolding taking
     taken_at = record {
@@ -116,7 +111,7 @@ module _ (base : List ℕ) (g : Growth) (may : MayGrow base g) where
       op = allocates.changes.idle;
       count_is = shown.keeps.each g.header (header_elsewhere base g may g.header 0 (omega arith) (omega arith) (λ e. omega (arith, e)));
       named = shown.word_is;
-      live = gained-contains (live_blocks base) (chunk_block (next_chunk base g)) (live_blocks taken) gained;
+      live = gained_live (live_blocks base) (live_blocks taken) (chunk_block (next_chunk base g)) gained;
       no_bitmap = λ small e.
           let free = header_place.no_descriptor in
           ⊎_elim

@@ -1,6 +1,6 @@
 -- A formatted image keeps every rule.
-use Rattle.std.proofs.Common.{subst, ◌≡◌, ◌⊎◌, inl, inr, ⊎_elim, ℕ, zero, suc, ◌+◌, ◌*◌, ◌/◌, ◌%◌, ◌^◌, ◌<◌, ◌≤◌, true, false, not, ◌&&◌, ltb, leb, eqb, List, ◌∷◌, get_or, map, replicate, refl, sym, ◌∙◌, ap, arith}
-use Rattle.std.specs.Prelude.{◌==◌, Contains, All, IsTrue, filter}
+use Rattle.std.proofs.Common.{subst, ◌≡◌, ◌⊎◌, inl, inr, ⊎_elim, ℕ, zero, suc, ◌+◌, ◌*◌, ◌/◌, ◌%◌, ◌^◌, ◌<◌, ◌≤◌, true, false, not, ◌&&◌, ltb, leb, eqb, List, ◌∷◌, get_or, replicate, refl, sym, ◌∙◌, ap, arith}
+use Rattle.std.specs.Prelude.{◌==◌, Contains, filter}
 use Rattle.std.specs.List.{range_with_len}
 use Rattle.std.proofs.lemmas.Bool.{cases_Bool, not-true, ltb-true, ltb-false, leb-true, eqb-true, eqb-false, eq-eqb, and_parts, or_cases, or_parts}
 use Rattle.std.proofs.lemmas.List.{get_or_append_left, get_or-replicate}
@@ -10,12 +10,12 @@ use Rattle.pm_model.specs.Places.{below, page_at, page_count}
 use Rattle.shown_state.proofs.Formatted.{first_segment, other_segment, formatted, length-formatted, word_first, word_other, formatted_is_fresh}
 use Rattle.pm_model.specs.Fresh.{fresh_words}
 use Rattle.pm_model.specs.Blocks.{Block, descriptor_of, bitmap_of, slots_of, class_of, says_small, says_big, inside_after, inside_at, is_inside, is_small_page, is_given_back, is_reserved, live_blocks}
-use Rattle.pm_model.specs.Checks.{Check, check, Keeps}
+use Rattle.pm_model.specs.Checks.{check, Keeps}
 use Rattle.pm_model.specs.Objects.{entry_places}
 use Rattle.pm_model.specs.Owners.{owner_words}
 use Rattle.pm_model.specs.EntryRules.{magic_rule, version_rule, last_rule, table_count_rule, table_slot_rule, arrays_rule, tree_rule, name_rule, text_key_rule, object_rule, objects_rule, entries_rule, KeepsEntryRules}
 use Rattle.pm_model.specs.SoundRules.{idle_rule, split_log_rule, closed_rule, owner_rule, single_owner_rule, owned_rule, order_rule, fingerprint_rule, code_rule, text_rule, spare_slot_rule, stamp_rule, row_code_rule, zero_check, given_back_rule, distinct_name_rule, IsSound}
-use Rattle.pm_model.proofs.Faults.{Holds, all_hold}
+use Rattle.pm_model.proofs.Faults.{Holds, all_hold, mapped_hold}
 use Rattle.pm_model.proofs.Members.{Contains-below, Contains-flat_map, Contains-filter}
 use Rattle.pm_model.proofs.Heap.{page_of_block}
 use Rattle.pm_model.specs.HeapRules.{is_descriptor, reserved_rule, descriptor_rule, bitmap_rule, lane_rule}
@@ -97,10 +97,6 @@ descriptor_cases segments page lt = word_cases segments (page / 64) (page % 64) 
 reserved_is : (segments page : ℕ) → page < 64 * segments → is_reserved page ≡ true → descriptor_of (formatted segments) page ≡ 8
 reserved_is segments page lt reserved = word_reserved segments (page / 64) (page % 64) (omega arith) (omega arith) (ap is_reserved (sym (page_parts page)) ∙ reserved)
 
--- each element passes where the checks of a list are made one from each
-mapped : (f : ℕ → Check) (xs : List ℕ) → ((x : ℕ) → Contains xs x → IsTrue (f x).holds) → All Holds (map f xs)
-mapped f xs hold = All-map Holds f xs (λ k d lt. hold (get_or xs k d) (Contains-get_or xs k d lt))
-
 in_image : (segments page : ℕ) → 0 < segments → page < page_count (formatted segments) → page < 64 * segments
 in_image segments page some lt = omega (arith, formatted_pages segments some)
 
@@ -120,7 +116,7 @@ not_big segments page lt big =
 formatted_reserved : (segments : ℕ) → 0 < segments → Keeps (formatted segments) reserved_rule
 unfolding reserved_rule
 formatted_reserved segments some = record {
-  checks = mapped (λ page. check (descriptor_at page) (descriptor_of (formatted segments) page == 8)) _
+  checks = mapped_hold (λ page. check (descriptor_at page) (descriptor_of (formatted segments) page == 8)) _
       (λ page of. let found = Contains-filter is_reserved (below (page_count (formatted segments))) page of in
       eq-eqb (descriptor_of (formatted segments) page) 8 (reserved_is segments page (in_image segments page some (Contains-below _ page found.0)) found.1));
 }
@@ -128,7 +124,7 @@ formatted_reserved segments some = record {
 formatted_descriptors : (segments : ℕ) → 0 < segments → Keeps (formatted segments) descriptor_rule
 unfolding descriptor_rule
 formatted_descriptors segments some = record {
-  checks = mapped (λ page. check (descriptor_at page) (is_descriptor page (descriptor_of (formatted segments) page))) _
+  checks = mapped_hold (λ page. check (descriptor_at page) (is_descriptor page (descriptor_of (formatted segments) page))) _
       (λ page of. let found = Contains-filter (λ p. not (is_reserved p) && not (is_inside (formatted segments) p)) (below (page_count (formatted segments))) page of in
       let free = not-true (is_reserved page) (and_parts (not (is_reserved page)) (not (is_inside (formatted segments) page)) found.1).0 in
       known page (in_image segments page some (Contains-below _ page found.0)) free);
@@ -142,7 +138,7 @@ formatted_descriptors segments some = record {
 formatted_bitmaps : (segments : ℕ) → 0 < segments → Keeps (formatted segments) bitmap_rule
 unfolding bitmap_rule
 formatted_bitmaps segments some = record {
-  checks = mapped (λ page. check (page_at page) (ltb (bitmap_of (formatted segments) page) (2 ^ slots_of (class_of (formatted segments) page)))) _
+  checks = mapped_hold (λ page. check (page_at page) (ltb (bitmap_of (formatted segments) page) (2 ^ slots_of (class_of (formatted segments) page)))) _
       (λ page of. let found = Contains-filter (is_small_page (formatted segments)) (below (page_count (formatted segments))) page of in
       absurd (not_small segments page (in_image segments page some (Contains-below _ page found.0)) (and_parts (not (is_inside (formatted segments) page)) (says_small (descriptor_of (formatted segments) page)) found.1).1));
 }
@@ -161,7 +157,7 @@ formatted_owned segments some = record {
 formatted_given_back : (segments : ℕ) → 0 < segments → Keeps (formatted segments) given_back_rule
 unfolding given_back_rule
 formatted_given_back segments some = record {
-  checks = mapped (zero_check (formatted segments)) _
+  checks = mapped_hold (zero_check (formatted segments)) _
       (λ at of. let (page, is, within) = Contains-flat_map (λ p. range_with_len (page_at p) 512) (filter (is_given_back (formatted segments)) (below (page_count (formatted segments)))) at of in
       let found = Contains-filter (is_given_back (formatted segments)) (below (page_count (formatted segments))) page is in
       absurd (not_given_back page (in_image segments page some (Contains-below _ page found.0)) (and_parts (not (is_inside (formatted segments) page)) (eqb (descriptor_of (formatted segments) page) 1) found.1).1));

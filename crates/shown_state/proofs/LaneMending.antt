@@ -7,7 +7,7 @@ use Rattle.pm_model.specs.Fixed.{descriptor_at, lane_op_at, lane_dest_at, lane_b
 use Rattle.pm_model.specs.Pointer.{pointer_word}
 use Rattle.pm_model.specs.Places.{below, page_of, page_at, place_in, is_pointer}
 use Rattle.pm_model.specs.Plans.{Part, IsPlan, EachCut, finished, one_store}
-use Rattle.pm_model.specs.Needed.{needed_parts, AllStores, StoresOfParts}
+use Rattle.pm_model.specs.Needed.{needed_parts, AllStores, StoresOfParts, after_mending}
 use Rattle.pm_model.specs.Blocks.{slots_of, slot_in, class_of, is_reserved, is_small_page, is_slot, is_block_pointer}
 use Rattle.pm_model.specs.Checks.{Check, check, Keeps}
 use Rattle.pm_model.specs.HeapRules.{lane_rule, is_lane}
@@ -22,7 +22,7 @@ use Rattle.heap_palloc.specs.Law.{IsOwnerPlace}
 use Rattle.heap_palloc.proofs.Slots.{without_bit-clear, descriptor_outside-lane, bitmap_outside-lane}
 use Rattle.heap_palloc.proofs.Stages.{mended-idle}
 use Rattle.shown_state.specs.LaneRules.{KeepsLaneRules, MayMend}
-use Rattle.shown_state.specs.Mending.{after_mending, lane_mending, lane_parts, release_part}
+use Rattle.shown_state.specs.Mending.{lane_mending, lane_parts, release_part}
 
 -- ── a lane that is at work ──
 

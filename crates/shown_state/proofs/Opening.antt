@@ -23,8 +23,8 @@ use Rattle.pm_model.proofs.Heap.{Holds}
 use Rattle.pm_model.proofs.Members.{below-Contains, Contains-below, Contains-here, Contains-there, flat_map-Contains, map-Contains, filter-Contains}
 use Rattle.shown_state.specs.LogicalState.{logical_state}
 use Rattle.pm_model.specs.Plans.{Part, store}
-use Rattle.pm_model.specs.Needed.{is_there, is_stored_later, needed_stores, needed_parts}
-use Rattle.shown_state.specs.Mending.{Mending, lane_mending, at_column, split_parts, split_mending, free_table, slot_mending, free_text, text_mending, last_mending, undo_mending, close_mending, clear_mending, mendings, mend, reached_by_opening}
+use Rattle.pm_model.specs.Needed.{is_there, is_stored_later, needed_stores, needed_parts, Mending}
+use Rattle.shown_state.specs.Mending.{lane_mending, at_column, split_parts, split_mending, free_table, slot_mending, free_text, text_mending, last_mending, undo_mending, close_mending, clear_mending, mendings, mend, reached_by_opening}
 use Rattle.shown_state.specs.OpeningLaws.{FormattedIsRecoverable, FormattedShowsNothing, SoundIsRecoverable, SoundIsRecovered}
 use Rattle.shown_state.proofs.FormattedImage.{formatted_is_sound}
 use Rattle.pm_model.specs.Records.{split_leaf_at, new_leaf_at, dictionary_header}

@@ -5,8 +5,8 @@ use Rattle.std.specs.Option.{option_map_or}
 use Rattle.pm_model.specs.declared.action.Action.{Action}
 use Rattle.pm_model.specs.Fixed.{commit_word_at, descriptor_at, lane_op_at, lane_dest_at, lane_block_at, last_at, state_at}
 use Rattle.pm_model.specs.Places.{below, page_of, place_in}
-use Rattle.pm_model.specs.Plans.{Part, store, one_store, stores, finished}
-use Rattle.pm_model.specs.Needed.{needed_parts}
+use Rattle.pm_model.specs.Plans.{Part, store, one_store, stores}
+use Rattle.pm_model.specs.Needed.{needed_parts, Mending, after_mending}
 use Rattle.pm_model.specs.Records.{code_at, created_header, ended_header, first_leaf_at, high_at, key_at, new_leaf_at, next_leaf_at, split_leaf_at}
 use Rattle.pm_model.specs.Blocks.{is_block_pointer}
 use Rattle.pm_model.specs.Arrays.{place_of}
@@ -20,10 +20,6 @@ use Rattle.heap_palloc.specs.Lane.{mark_at, unmarked}
 use Rattle.heap_palloc.specs.Choice.{freed_named, freed_parts}
 use Rattle.shown_state.specs.Packed.{packed_words}
 use Rattle.shown_state.specs.LogicalState.{created_rows, row_bound}
-
--- the parts that mend something, from the words before it
-abbrev pub Mending : Type 0
-Mending = List ℕ → List Part
 
 -- ── lanes ──
 
@@ -190,10 +186,6 @@ mendings =
     ++ map undo_mending (below 16)
     ++ map close_mending (below 16)
     ++ map clear_mending (below 16)
-
--- the words after a mending as opening makes it: of its parts only the stores that are needed, played whole
-abbrev pub after_mending : Mending → List ℕ → List ℕ
-after_mending mending words = finished (needed_parts words (mending words)) words
 
 -- the words that opening has reached, and whether it goes no further
 pub record Reached : Type 0 where

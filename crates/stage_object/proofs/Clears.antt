@@ -1,16 +1,17 @@
 -- The part that clears an object: how many stores it has, and how many lines they touch.
 use Rattle.std.proofs.Common.{◌≡◌, ◌⊎◌, inl, inr, ⊎_elim, ℕ, zero, suc, ◌+◌, ◌-◌, ◌/◌, ◌<◌, ◌≤◌, max, Bool, true, false, not, ◌||◌, IsTrue, cond, eqb, ltb, List, [], ◌∷◌, ◌++◌, length, map, drop, refl, sym, ◌∙◌, ap, append_assoc, append-nil, arith}
 use Rattle.std.specs.List.{range_with_len}
-use Rattle.std.proofs.lemmas.Bool.{cond-true, cond-false, eq-eqb, ne_eqb, cases_eq, lt-ltb, le-ltb, both_ways}
-use Rattle.std.proofs.lemmas.List.{length-append, length-map}
+use Rattle.std.proofs.lemmas.Bool.{cond-true, cond-false, eq-eqb, ne_eqb, cases_eq, le-ltb, both_ways}
+use Rattle.std.proofs.lemmas.List.{length-append}
 use Rattle.std.proofs.lemmas.List.FromFn.{map-range_with_len_more, length-range_with_len, length-map-range_with_len}
-use Rattle.std.proofs.Math.Seq.{drop-append_seam}
 use mir.Val.{bool_byte}
 use Rattle.pm_model.specs.declared.action.Action.{Action}
-use Rattle.pm_model.specs.declared.action.Action.TheVariants.{Store, Flush, Fence}
+use Rattle.pm_model.specs.declared.action.Action.TheVariants.{Store}
 use Rattle.pm_model.specs.declared.place.Place.{Place}
 use Rattle.pm_model.specs.Fixed.{state_at, commit_word_at, entry_at}
 use Rattle.pm_model.specs.Plans.{store, one_store, unless_empty, add_line, lines_of, part_end, part_actions, plan_of}
+use Rattle.pm_model.proofs.Lines.{add_line-run, last_part, length-part_end, length-part_actions}
+use Rattle.txn_object.proofs.Clears.{bit_is}
 use Rattle.stage_object.specs.Object.{entry_clears, clear_part, retire_parts, clear_length, retire_length}
 
 -- one more entry
@@ -30,30 +31,6 @@ line_of object nth = entry_at object nth / 8
 
 abbrev first_line : ℕ → ℕ
 first_line object = commit_word_at object / 8
-
--- a line that is the first of a run, or the one before it
-add_line-run : (line first end : ℕ) → (line ≡ first) ⊎ (line + 1 ≡ first) → first ≤ end → add_line line (range_with_len first (end + 1 - first)) ≡ range_with_len line (end + 1 - line)
-add_line-run line first end near le = ⊎_elim same below near
-  where
-    some : (n : ℕ) → n ≤ end → end + 1 - n ≡ suc (end - n)
-    some n le = omega arith
-
-    same : line ≡ first → add_line line (range_with_len first (end + 1 - first)) ≡ range_with_len line (end + 1 - line)
-    same is =
-        ap (λ (n : ℕ). add_line line (range_with_len first n)) (some first le)
-        ∙ cond-false (ltb line first) (line ∷ first ∷ range_with_len (first + 1) (end - first)) (cond (eqb line first) (first ∷ range_with_len (first + 1) (end - first)) (first ∷ add_line line (range_with_len (first + 1) (end - first)))) (le-ltb line first (omega (arith, is)))
-        ∙ cond-true (eqb line first) (first ∷ range_with_len (first + 1) (end - first)) (first ∷ add_line line (range_with_len (first + 1) (end - first))) (eq-eqb line first is)
-        ∙ ap (λ (n : ℕ). range_with_len first n) (sym (some first le))
-        ∙ ap (λ (n : ℕ). range_with_len n (end + 1 - n)) (sym is)
-
-    below : line + 1 ≡ first → add_line line (range_with_len first (end + 1 - first)) ≡ range_with_len line (end + 1 - line)
-    below is =
-        let more : suc (end + 1 - first) ≡ end + 1 - line = omega (arith, is, le) in
-        ap (λ (n : ℕ). add_line line (range_with_len first n)) (some first le)
-        ∙ cond-true (ltb line first) (line ∷ first ∷ range_with_len (first + 1) (end - first)) (cond (eqb line first) (first ∷ range_with_len (first + 1) (end - first)) (first ∷ add_line line (range_with_len (first + 1) (end - first)))) (lt-ltb line first (omega (arith, is)))
-        ∙ ap (λ (n : ℕ). line ∷ range_with_len first n) (sym (some first le))
-        ∙ ap (λ (n : ℕ). line ∷ range_with_len n (end + 1 - first)) (sym is)
-        ∙ ap (λ (n : ℕ). range_with_len line n) more
 
 next_line : (object nth : ℕ) → (line_of object nth ≡ line_of object (nth + 1)) ⊎ (line_of object nth + 1 ≡ line_of object (nth + 1))
 next_line object nth = ⊎_elim (λ e. inl e) (λ apart. inr (omega (arith, apart))) (cases_eq (line_of object nth) (line_of object (nth + 1)))
@@ -146,18 +123,6 @@ unfolding clear_part
 cleared-entries old left object entries true unset is = absurd (both_ways true unset refl)
 cleared-entries old left object entries false unset is = is ∙ ap (λ (l : List Action). old ++ l) (sym (append-nil (entry_clears object entries)))
 
--- the last part of a list
-pub drop-last : (old part left : List Action) (count : ℕ) → left ≡ old ++ part → count ≡ length part → drop (length left - count) left ≡ part
-drop-last old part left count is size =
-    let at : length left - count ≡ length old = omega (arith, ap (λ (l : List Action). length l) is, length-append old part, size) in
-    ap (λ (n : ℕ). drop n left) at ∙ ap (λ (l : List Action). drop (length old) l) is ∙ drop-append_seam old part
-
-pub length-part_end : (part : List Action) → length (part_end part) ≡ length (lines_of part) + 1
-length-part_end part = length-append (map (λ line. Flush line) (lines_of part)) (Fence ∷ []) ∙ ap (λ (n : ℕ). n + 1) (length-map (lines_of part) (λ line. Flush line))
-
-pub length-part_actions : (part : List Action) → length (part_actions part) ≡ length part + length (lines_of part) + 1
-length-part_actions part = omega (arith, length-append part (part_end part), length-part_end part)
-
 -- a retire is its first part, and the second where there is something to clear
 pub plan_of-retire : (object entries : ℕ) (word : Bool) → 0 < entries + cond word 1 0
     → plan_of (retire_parts object entries word) ≡ part_actions (one_store (state_at object) 0) ++ part_actions (clear_part object entries word)
@@ -213,7 +178,7 @@ ends_part old left spare object entries word count some is counted le =
     let part = clear_part object entries word in
     let size = length-clear_part object entries word in
     let all : length left ≡ length old + length part = ap (λ (l : List Action). length l) is ∙ length-append old part in
-    let last : drop (length left - count) left ≡ part = drop-last old part left count is (counted ∙ sym size) in
+    let last : drop (length left - count) left ≡ part = last_part old part left count is (counted ∙ sym size) in
     let lines : length (lines_of (drop (length left - count) left)) ≡ (entries + 3) / 8 + 1 = ap (λ (l : List Action). length (lines_of l)) last ∙ length-lines_of-clear_part object entries word some in
     let end = length-part_end (drop (length left - count) left) in
     record {
@@ -222,11 +187,6 @@ ends_part old left spare object entries word count some is counted le =
       part = ap (λ (l : List Action). left ++ part_end l) last ∙ ap (λ (l : List Action). l ++ part_end part) is ∙ append_assoc old part (part_end part);
       size = omega (arith, end, lines);
     }
-
--- u32::from of a bool
-bit_is : (word : Bool) → ◌≡◌ {A = ℕ} (bool_byte word) (cond word 1 0)
-bit_is true = refl
-bit_is false = refl
 
 pub ends_clear : (old left : List Action) (spare all object entries : ℕ) (word : Bool) (bit : ℕ) → IsTrue (not (eqb entries 0) || word) → left ≡ old ++ clear_part object entries word → bit ≡ bool_byte word
     → spare + (entries + cond word 1 0) ≡ all → clear_length entries word ≤ all → Ends old left spare object entries word (entries + bit)

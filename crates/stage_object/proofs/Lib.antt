@@ -1,5 +1,4 @@
 pub mod Clears
-pub mod Cuts
 pub mod EntryWords
 pub mod OneStore
 pub mod Plays

@@ -1,19 +1,18 @@
 -- A begin and an entry: what the object shows after the one store that each of them is.
-use Rattle.std.proofs.Common.{◌≡◌, ◌⊎◌, inl, inr, ⊎_elim, ℕ, ◌+◌, ◌/◌, ◌%◌, ◌^◌, ◌<◌, cond, eqb, List, [], ◌∷◌, ◌++◌, set, sym, ◌∙◌, ap, subst, arith}
+use Rattle.std.proofs.Common.{◌≡◌, ◌⊎◌, inl, inr, ⊎_elim, ℕ, ◌+◌, List, [], ◌∷◌, ◌++◌, set, sym, ◌∙◌, ap, subst, arith}
 use Rattle.std.proofs.lemmas.List.{get_or-set_same, get_or-set_other}
-use Rattle.std.proofs.lemmas.Bool.{cases_eq, cond-true, cond-false, eq-eqb, ne_eqb}
+use Rattle.std.proofs.lemmas.Bool.{cases_eq}
 use Rattle.pm_model.specs.declared.action.Action.{Action}
 use Rattle.pm_model.specs.Device.{Device}
 use Rattle.pm_model.specs.Fixed.{state_at, commit_word_at, entry_at}
 use Rattle.pm_model.specs.Plans.{Play}
 use Rattle.txn_object.specs.declared.entry.Entry.{Entry}
-use Rattle.txn_object.specs.declared.entry.EntryKind.{EntryKind}
-use Rattle.txn_object.specs.declared.entry.EntryKind.TheVariants.{Created, Ended}
-use Rattle.txn_object.specs.Entries.{kind_number, entry_word, entry_of}
+use Rattle.txn_object.specs.Entries.{entry_word, entry_of}
+use Rattle.txn_object.specs.Shown.{IsCut}
+use Rattle.txn_object.proofs.Entering.{cut-one_store, ended-one_store, entry_word-set, entry_of-entry_word}
 use Rattle.stage_object.specs.Object.{begin_parts, entry_part}
-use Rattle.stage_object.specs.Shown.{Transaction, Shows, HasObject, NoEntryFollowsZero, MayEnter, IsCut}
+use Rattle.stage_object.specs.Shown.{Transaction, Shows, HasObject, NoEntryFollowsZero, MayEnter}
 use Rattle.stage_object.proofs.EntryWords.{word_at, entries_in-same, entries_in-set, entries_in-append, entries_in-rest}
-use Rattle.stage_object.proofs.Cuts.{cut-one_store, ended-one_store}
 
 -- ── a begin ──
 
@@ -37,29 +36,6 @@ begin_ends object transaction play d image base cut is has shows =
     subst (λ (l : List ℕ). Shows l object (record transaction { state = 1 })) (sym (ended-one_store (state_at object) 1 play d image base is cut)) (begin_after object transaction base has shows)
 
 -- ── an entry ──
-
--- the word of an entry spells it
-kind-set : (kind : EntryKind) → kind_number kind ≡ 0 → ⊥
-kind-set Created e = omega (arith, e)
-kind-set Ended e = omega (arith, e)
-
-pub entry_word-set : (entry : Entry) → entry_word entry ≡ 0 → ⊥
-entry_word-set entry e = kind-set entry.kind (omega (arith, e))
-
-kind-spelt : (kind : EntryKind) (n : ℕ) → n ≡ kind_number kind → cond (eqb n 1) Created Ended ≡ kind
-kind-spelt Created n is = cond-true (eqb n 1) Created Ended (eq-eqb n 1 is)
-kind-spelt Ended n is = cond-false (eqb n 1) Created Ended (ne_eqb n 1 (λ e. omega (arith, is, e)))
-
-entry-same : (a b : EntryKind) (t u r s : ℕ) → a ≡ b → t ≡ u → r ≡ s → ◌≡◌ {A = Entry} (record { kind = a; table = t; row = r }) (record { kind = b; table = u; row = s })
-entry-same a b t u r s kinds tables rows = cc
-
-pub entry_of-entry_word : (entry : Entry) → entry.table < 2 ^ 24 → entry.row < 2 ^ 32 → entry_of (entry_word entry) ≡ entry
-entry_of-entry_word entry table row =
-    let word = entry_word entry in
-    let kinds : word / 2 ^ 56 ≡ kind_number entry.kind = omega (arith, table, row) in
-    let tables : word / 2 ^ 32 % 2 ^ 24 ≡ entry.table = omega (arith, table, row) in
-    let rows : word % 2 ^ 32 ≡ entry.row = omega (arith, table, row) in
-    entry-same (cond (eqb (word / 2 ^ 56) 1) Created Ended) entry.kind (word / 2 ^ 32 % 2 ^ 24) entry.table (word % 2 ^ 32) entry.row (kind-spelt entry.kind (word / 2 ^ 56) kinds) tables rows
 
 pub entry_after : (object nth : ℕ) (entry : Entry) (transaction : Transaction) (base : List ℕ) → MayEnter base object nth entry → Shows base object transaction
     → Shows (set base (entry_at object nth) (entry_word entry)) object (record transaction { entries = transaction.entries ++ entry ∷ [] })

@@ -1,5 +1,6 @@
 -- A whole transaction as one plan: it may be played on a device at rest, and so may what is left of it.
 use Rattle.std.proofs.Common.{◌≡◌, ℕ, zero, suc, ◌<◌, true, List, [], ◌∷◌, ◌++◌, length, take, drop, refl, sym, ◌∙◌, ap, subst, append_assoc, arith}
+use Rattle.std.proofs.lemmas.Grind.{flat_map-append}
 use Rattle.pm_model.specs.declared.action.Action.{Action}
 use Rattle.pm_model.specs.Device.{Device, acted}
 use Rattle.pm_model.specs.Plans.{Part, part_actions, plan_of, IsPlan, run, MayPlay, at_rest}
@@ -19,10 +20,6 @@ pub may_play-rest : (session n : ℕ) (left rest : List Action) (d e : Device) �
 may_play-rest session n left rest d e rests runs may =
     subst (λ (l : List Action). MayPlay session l e) (sym rests) (subst (λ (x : Device). MayPlay session (drop n left) x) (sym runs) (may_play-drop session n left d may))
 
-plan_of-append : (xs ys : List Part) → plan_of (xs ++ ys) ≡ plan_of xs ++ plan_of ys
-plan_of-append [] ys = refl
-plan_of-append (x ∷ xs) ys = ap (λ (l : List Action). part_actions x ++ l) (plan_of-append xs ys) ∙ sym (append_assoc (part_actions x) (plan_of xs) (plan_of ys))
-
 -- two parts between two lists of parts
 joined : (l0 l1 l2 l3 l4 first : List Action) (before after : List Part) (p q : Part) → l0 ≡ [] → first ≡ plan_of before → l1 ≡ l0 ++ first → l2 ≡ l1 ++ part_actions p → l3 ≡ l2 ++ part_actions q → l4 ≡ l3 ++ plan_of after
     → l4 ≡ plan_of (before ++ p ∷ q ∷ after)
@@ -30,7 +27,7 @@ joined l0 l1 l2 l3 l4 first before after p q a b c d e f =
     f ∙ ap (λ (l : List Action). l ++ plan_of after) (e ∙ ap (λ (l : List Action). l ++ part_actions q) (d ∙ ap (λ (l : List Action). l ++ part_actions p) (c ∙ ap (λ (l : List Action). l ++ first) a ∙ b)))
     ∙ append_assoc (plan_of before ++ part_actions p) (part_actions q) (plan_of after)
     ∙ append_assoc (plan_of before) (part_actions p) (part_actions q ++ plan_of after)
-    ∙ sym (plan_of-append before (p ∷ q ∷ after))
+    ∙ sym (flat_map-append part_actions before (p ∷ q ∷ after))
 
 pub whole_may_play : (session object : ℕ) (one two : Entry) (l0 l1 l2 l3 l4 first : List Action) → object < 16 → l0 ≡ [] → first ≡ plan_of (begin_parts object) → l1 ≡ l0 ++ first
     → l2 ≡ l1 ++ part_actions (entry_part object 0 one) → l3 ≡ l2 ++ part_actions (entry_part object 1 two) → l4 ≡ l3 ++ plan_of (retire_parts object 2 true)

@@ -1,9 +1,6 @@
 -- What the words of a transaction object show, and what the plans of a transaction may rest on.
 use Rattle.std.specs.Prelude.{◌≡◌, ◌≢◌, ◌⊎◌, ℕ, ◌+◌, ◌^◌, ◌<◌, ◌≤◌, Bool, IsTrue, List, length, slice_index}
-use Rattle.pm_model.specs.declared.action.Action.{Action}
-use Rattle.pm_model.specs.Device.{Device}
 use Rattle.pm_model.specs.Fixed.{state_at, commit_word_at, entry_at}
-use Rattle.pm_model.specs.Plans.{Play, IsPlaying, IsCrashImageWithin, IsTakenBack}
 use Rattle.txn_object.specs.declared.entry.Entry.{Entry}
 use Rattle.stage_object.specs.Object.{entries_in}
 
@@ -37,14 +34,6 @@ pub record MayEnter (words : List ℕ) (object nth : ℕ) (entry : Entry) : Type
   pub packed : NoEntryFollowsZero words object
   pub table : entry.table < 2 ^ 24
   pub row : entry.row < 2 ^ 32
-
--- A power cut leaves this image while these actions of the plan are left, and the base is the image with the plan taken
--- back.
-pub record IsCut (play : Play) (left : List Action) (d : Device) (image base : List ℕ) : Type 0 where
-  pub played : ℕ
-  pub playing : IsPlaying play played left d
-  pub left_by : IsCrashImageWithin play.own d image
-  pub back : IsTakenBack play image base
 
 -- the words that the second part of a retire clears: the first entries and, where it is set, the commit word
 abbrev pub IsCleared : ℕ → ℕ → Bool → ℕ → Type 0

@@ -7,7 +7,8 @@ ghost use Rattle.pm_model.specs.Plans.{Play, IsPlan, EachCut, finished, footprin
 ghost use Rattle.txn_object.specs.declared.entry.Entry.{Entry};
 ghost use Rattle.txn_object.specs.Entries.{entry_word, entry_of};
 ghost use Rattle.stage_object.specs.Object.{entries_in, free_entries_in, begin_parts, entry_part, clear_part, retire_parts, retire_length};
-ghost use Rattle.stage_object.specs.Shown.{Transaction, Shows, HasObject, NoEntryFollowsZero, MayEnter, IsCut, IsCleared, IsRetiring, IsRetired};
+ghost use Rattle.txn_object.specs.Shown.{IsCut};
+ghost use Rattle.stage_object.specs.Shown.{Transaction, Shows, HasObject, NoEntryFollowsZero, MayEnter, IsCleared, IsRetiring, IsRetired};
 
 /// The entries of an object, word by word.
 pub fn entries_law()

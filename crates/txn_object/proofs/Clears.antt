@@ -1,15 +1,15 @@
 -- The part that clears an object, and the end of a part.
-use Rattle.std.proofs.Common.{◌≡◌, ◌⊎◌, ⊎_elim, ℕ, zero, suc, ◌+◌, ◌-◌, ◌<◌, ◌≤◌, Bool, true, false, cond, List, [], ◌∷◌, ◌++◌, length, take, drop, map, refl, sym, ◌∙◌, ap, append_assoc, append-nil, arith}
+use Rattle.std.proofs.Common.{◌≡◌, ◌⊎◌, ⊎_elim, ℕ, zero, suc, ◌+◌, ◌-◌, ◌<◌, ◌≤◌, Bool, true, false, cond, List, [], ◌∷◌, ◌++◌, length, take, drop, refl, sym, ◌∙◌, ap, append_assoc, append-nil, arith}
 use Rattle.std.proofs.lemmas.Bool.{cond-true, both_ways}
 use Rattle.std.proofs.lemmas.List.{length-append, length-map, length-take-le}
-use Rattle.std.proofs.Math.Seq.{drop-append_seam}
 use mir.Val.{bool_byte}
 use Rattle.pm_model.specs.declared.action.Action.{Action}
-use Rattle.pm_model.specs.declared.action.Action.TheVariants.{Store, Flush, Fence}
+use Rattle.pm_model.specs.declared.action.Action.TheVariants.{Store}
 use Rattle.pm_model.specs.declared.place.Place.{Place}
 use Rattle.pm_model.specs.Fixed.{state_at, commit_word_at}
 use Rattle.pm_model.specs.Plans.{Part, store, stores, one_store, unless_empty, lines_of, part_end, part_actions, plan_of}
 use Rattle.pm_model.specs.Objects.{entry_places}
+use Rattle.pm_model.proofs.Lines.{last_part, length-part_actions}
 use Rattle.txn_object.specs.Object.{clear_part, retire_parts}
 
 pub length-clear_part : (words : List ℕ) (object entries : ℕ) (word : Bool) → entries ≤ length (entry_places words object) → length (clear_part words object entries word) ≡ entries + cond word 1 0
@@ -32,17 +32,10 @@ pub record Ends (old left part : List Action) (spare count : ℕ) : Type 0 where
   pub part_is : left ++ part_end (drop (length left - count) left) ≡ old ++ part_actions part
   pub size : length part + length (part_end (drop (length left - count) left)) ≡ length (part_actions part)
 
-pub length-part_end : (part : List Action) → length (part_end part) ≡ length (lines_of part) + 1
-length-part_end part = length-append (map (λ line. Flush line) (lines_of part)) (Fence ∷ []) ∙ ap (λ (n : ℕ). n + 1) (length-map (lines_of part) (λ line. Flush line))
-
-pub length-part_actions : (part : List Action) → length (part_actions part) ≡ length part + length (lines_of part) + 1
-length-part_actions part = let all = length-append part (part_end part) in let end = length-part_end part in omega (arith, all, end)
-
 pub ends_part : (old left part : List Action) (spare all count : ℕ) → left ≡ old ++ part → count ≡ length part → spare + length part ≡ all → length (part_actions part) ≤ all → Ends old left part spare count
 ends_part old left part spare all count is size used le =
     let whole : length left ≡ length old + length part = ap (λ (l : List Action). length l) is ∙ length-append old part in
-    let at : length left - count ≡ length old = omega (arith, whole, size) in
-    let last : drop (length left - count) left ≡ part = ap (λ (n : ℕ). drop n left) at ∙ ap (λ (l : List Action). drop (length old) l) is ∙ drop-append_seam old part in
+    let last = last_part old part left count is size in
     let lines : length (lines_of (drop (length left - count) left)) ≡ length (lines_of part) = ap (λ (l : List Action). length (lines_of l)) last in
     let end : length (part_end (drop (length left - count) left)) ≡ length (part_end part) = ap (λ (l : List Action). length (part_end l)) last in
     let actions = length-part_actions part in

@@ -17,19 +17,21 @@ use Rattle.pm_model.specs.Objects.{commit_word, ready_count, segment_pointer_at,
 use Rattle.pm_model.specs.EntryRules.{is_among, is_segment_pointer, object_rule}
 use Rattle.pm_model.proofs.Alone.{length-words_after}
 use Rattle.pm_model.proofs.Cuts.{between-kept, between-end, cut-one_store}
+use Rattle.pm_model.proofs.Ranges.{map_same}
 use Rattle.heap_palloc.specs.Lane.{mended_lane}
-use Rattle.heap_palloc.specs.Law.{ChangesShown, IsHeapPage}
+use Rattle.heap_palloc.specs.Law.{ChangesShown}
 use Rattle.heap_palloc.specs.Choice.{Choice, in_page, on_new_page, in_run, choice_parts, choice_block, choice_page, choice_pages, IsThrough, MayMake}
 use Rattle.heap_palloc.proofs.Stages.{place_in-pointer, mended-idle}
 use Rattle.heap_palloc.proofs.Choices.{choice_allocates}
 use Rattle.heap_palloc.proofs.LiveBlocks.{live_blocks-same}
+use Rattle.heap_palloc.proofs.Owners.{choice_heap}
 use Rattle.txn_object.specs.Extension.{Source, owned, allocated, Extension, new_segment, zero_part, readying_parts, extension_parts, MayExtend, MayTake}
 use Rattle.txn_object.specs.Shown.{IsElsewhereOf, IsOutside, HasSegment, HasNoSegment, IsUnextended, IsExtended}
 use Rattle.txn_object.proofs.Places.{places_up_to, all_places, places_next}
 use Rattle.txn_object.proofs.Rule.{state_ok, commit_ok, pointer_rule, rule_from}
 use Rattle.txn_object.proofs.Runs.{set_words, set_in_row, row-stop}
 use Rattle.txn_object.proofs.Walk.{words_at}
-use Rattle.txn_object.proofs.Frames.{map_same, pointer_same, segment_same, places_up_to_same, segment_pointer-same, place_cases}
+use Rattle.txn_object.proofs.Frames.{pointer_same, segment_same, places_up_to_same, segment_pointer-same, place_cases}
 use Rattle.txn_object.proofs.Entering.{words_at-same}
 use Rattle.txn_object.proofs.Taken.{StandsOn, taken}
 use Rattle.txn_object.proofs.Readying.{SameButSegment, zero-out, same_heap, segment_in, segment_behind, readied, readied_is_set, readied_count, readied_zero, readied_same}
@@ -45,11 +47,6 @@ segments_differ words object keeps a b lt below_b e =
     (list_any_at (λ other. eqb other (segment_of words object b)) (map (segment_of words object) (below b)) a 0 (omega (arith, size, lt)) (eq-eqb (get_or (map (segment_of words object) (below b)) a 0) (segment_of words object b) (at ∙ e)))
 
 -- ── an allocation as one of this object ──
-
-pub choice_heap_page : (base : List ℕ) (choice : Choice) → MayMake base choice → IsHeapPage base (choice_page choice)
-choice_heap_page base (in_page s) may = may.page_is.page_is
-choice_heap_page base (on_new_page s) may = may.page_is
-choice_heap_page base (in_run r) may = may.run.page_is
 
 pub choice_changes : (base : List ℕ) (lane owner : ℕ) (choice : Choice) → MayMake base choice → IsThrough lane owner choice
     → ChangesShown lane owner (choice_page choice) (choice_pages choice) base (live_blocks base) 0 (live_blocks (finished (choice_parts base choice) base)) (pointer_word (choice_block choice).first) (choice_parts base choice) base
@@ -88,7 +85,7 @@ module _ (base : List ℕ) (e : Extension) (may : MayExtend base e) (page : ℕ)
       go (allocated choice) take =
           let number = may.number in
           let outside : (n : ℕ) → n < 3 → w ≢ 576 + 8 * e.object + n = λ n small is. ⊎_elim (λ low. omega (arith, low, is)) (λ high. omega (arith, high, is, number, small)) lanes in
-          let fixed = (choice_heap_page base choice take.0).behind_fixed in
+          let fixed = (choice_heap base choice take.0).behind_fixed in
           record {
             outside_lane = (outside 0 (omega arith), outside 1 (omega arith), outside 2 (omega arith));
             no_owner = apart;

@@ -1,6 +1,6 @@
 -- An object whose count and pointers stay: its segments and the places of its entries stay too.
-use Rattle.std.proofs.Common.{◌≡◌, ◌≢◌, ◌⊎◌, inl, inr, ⊎_elim, ℕ, zero, suc, ◌+◌, ◌-◌, ◌*◌, ◌/◌, ◌%◌, ◌^◌, ◌<◌, ◌≤◌, min, Bool, true, not, ◌&&◌, ◌||◌, eqb, leb, ltb, List, ◌∷◌, ◌++◌, length, map, get_or, refl, sym, ◌∙◌, ap, subst, arith}
-use Rattle.std.specs.List.{flat_map, range_with_len}
+use Rattle.std.proofs.Common.{◌≡◌, ◌≢◌, ◌⊎◌, inl, inr, ⊎_elim, ℕ, zero, suc, ◌+◌, ◌-◌, ◌*◌, ◌/◌, ◌%◌, ◌^◌, ◌<◌, ◌≤◌, min, Bool, true, not, ◌&&◌, ◌||◌, eqb, leb, ltb, List, ◌++◌, length, map, get_or, refl, sym, ◌∙◌, ap, subst, arith}
+use Rattle.std.specs.List.{flat_map}
 use Rattle.std.proofs.lemmas.Bool.{cases_eq, cases_lt, leb-true, le-leb}
 use Rattle.pm_model.specs.Pointer.{pointer_word}
 use Rattle.pm_model.specs.Fixed.{state_at, commit_word_at, ready_at, last_at, entry_at, first_segment_at}
@@ -8,15 +8,10 @@ use Rattle.pm_model.specs.Places.{below, place_in, is_pointer_to, is_null_or_poi
 use Rattle.pm_model.specs.Records.{segment_entry_at}
 use Rattle.pm_model.specs.Objects.{commit_word, ready_count, segment_pointer_at, segment_of, pointer_after, ready_segments, entry_places}
 use Rattle.pm_model.specs.EntryRules.{is_among, is_segment_pointer}
+use Rattle.pm_model.proofs.Ranges.{map_same}
 use Rattle.txn_object.specs.Shown.{HasObject}
 use Rattle.txn_object.proofs.Places.{places_up_to, all_places, own_place, more_place, length-entry_places}
 use Rattle.txn_object.proofs.Rule.{at_most_32, commit_ok, pointer_rule, after_ok, within, rule_from}
-
-pub map_same : {A : Type 0} (f g : ℕ → A) (a n : ℕ) → ((k : ℕ) → a ≤ k → k < a + n → f k ≡ g k) → map f (range_with_len a n) ≡ map g (range_with_len a n)
-map_same f g a zero same = refl
-map_same f g a (suc n) same =
-    ap (λ (x : _). x ∷ map f (range_with_len (a + 1) n)) (same a (omega arith) (omega arith))
-    ∙ ap (λ (l : List _). g a ∷ l) (map_same f g (a + 1) n (λ k le lt. same k (omega (arith, le)) (omega (arith, lt))))
 
 pub record SameFrame (old new : List ℕ) (object : ℕ) : Type 0 where
   pub size : length new ≡ length old

@@ -12,13 +12,15 @@ use Rattle.heap_palloc.specs.Index.{HeapIndex, IsIndexOf}
 use Rattle.heap_palloc.specs.Choice.{Choice, choice_parts, choice_block}
 use Rattle.heap_palloc.proofs.RulesKept.{choice_rules}
 use Rattle.heap_palloc.proofs.Stages.{place_in-pointer}
+use Rattle.heap_palloc.proofs.Settled.{gained_live}
+use Rattle.heap_palloc.proofs.Owners.{more_live}
 use Rattle.txn_object.specs.Extension.{Source, owned, allocated, Extension, source_parts, segment_block, IsNoSegment, MayExtend}
 use Rattle.txn_object.specs.Calls.{next_pointer, MayPlanExtension}
 use Rattle.txn_object.specs.Shown.{IsUnextended}
 use Rattle.txn_object.proofs.Frames.{pointer_same, segment_same}
 use Rattle.txn_object.proofs.Taken.{StandsOn, source_stands}
 use Rattle.txn_object.proofs.Extending.{unextended, new_pointer_sound, blocks_end, pointers_kept}
-use Rattle.txn_object.proofs.Whole.{gained-new, gained-old, shown, changes, count_away, gains, at}
+use Rattle.txn_object.proofs.Whole.{shown, changes, count_away, gains, at}
 
 module _ (base : List ℕ) (object : ℕ) (choice : Choice) (may : MayExtend base (record { object = object; source = allocated choice })) (page : ℕ) (stands : StandsOn base (choice_block choice).first page) where
   abbrev now : List ℕ
@@ -66,12 +68,12 @@ module _ (base : List ℕ) (object : ℕ) (choice : Choice) (may : MayExtend bas
           let ready = count in
           let there : k < ready_count base object = omega (arith, lt, ready) in
           subst (λ (s : ℕ). Contains (live_blocks now) (segment_block s)) (sym (segment_stays k there))
-          (gained-old (live_blocks base) (segment_block segment) (segment_block (segment_of base object k)) (live_blocks now) (gains base object choice may page stands) (may.segments.live k there));
+          (more_live (live_blocks base) (live_blocks now) (segment_block segment) (segment_block (segment_of base object k)) (gains base object choice may page stands) (may.segments.live k there));
     };
     index_of = is;
     idle = (changes base object choice may page stands).idle;
     owned = λ lt some. record {
-      live = subst (λ (s : ℕ). Contains (live_blocks now) (segment_block s)) (sym next_place) (gained-new (live_blocks base) (segment_block segment) (live_blocks now) (gains base object choice may page stands));
+      live = subst (λ (s : ℕ). Contains (live_blocks now) (segment_block s)) (sym next_place) (gained_live (live_blocks base) (live_blocks now) (segment_block segment) (gains base object choice may page stands));
       apart = λ k lt_k same. let ready = count in may.apart k (omega (arith, lt_k, ready)) (sym (segment_stays k (omega (arith, lt_k, ready))) ∙ same ∙ next_place);
     };
   }

@@ -7,31 +7,16 @@ use Rattle.pm_model.specs.Fixed.{state_at, commit_word_at, ready_at, last_at, la
 use Rattle.pm_model.specs.Places.{page_at, place_in}
 use Rattle.pm_model.specs.Blocks.{Block, says_small, descriptor_of, is_inside, is_small_page, live_blocks}
 use Rattle.pm_model.specs.Objects.{commit_word, ready_count, segment_pointer_at, segment_of, entry_places}
-use Rattle.heap_palloc.specs.Index.{HeapIndex, IsIndexOf}
+use Rattle.heap_palloc.specs.Index.{HeapIndex}
 use Rattle.heap_palloc.proofs.Dests.{small_heap_page}
-use Rattle.heap_palloc.proofs.LiveBlocks.{SameHeap, inside_from, is_inside-same, is_small_page-same, live_blocks-same}
-use Rattle.heap_palloc.proofs.Reindex.{runs_of, runs_kept}
-use Rattle.heap_palloc.proofs.Rooms.{free-same, room-same, rooms_kept}
+use Rattle.heap_palloc.proofs.LiveBlocks.{SameHeap, live_blocks-same}
+use Rattle.heap_palloc.proofs.SameHeaps.{index_kept, rules_same}
 use Rattle.txn_object.specs.Extension.{segment_block, HasSegments}
 use Rattle.txn_object.specs.Shown.{HasObject}
 use Rattle.txn_object.specs.Calls.{next_pointer, MayPlanExtension}
 use Rattle.txn_object.proofs.Frames.{SameFrame, pointer_same, segment_same, ready_pointers_same, frame_object, pointer_not_low, entry_not_fixed, entry_not_pointer, place_cases}
 use Rattle.txn_object.proofs.Taken.{taken}
 use Rattle.txn_object.proofs.Readying.{descriptor_outside, bitmap_outside}
-use Rattle.txn_object.proofs.Whole.{rules_same}
-
--- an index stands for words with the same heap
-index_kept : (old new : List ℕ) (index : HeapIndex) → SameHeap old new → IsIndexOf old index → IsIndexOf new index
-index_kept old new index same is =
-    let inside = inside_from old new (λ page. (same.pages page).descriptor) in
-    let runs = runs_kept old new same.size index.free (runs_of old index is) (λ page. free-same old new page (is_inside-same old new inside page) (same.pages page).descriptor) in
-    record {
-      well_formed = runs.well_formed;
-      pages = runs.pages;
-      runs = runs.each;
-      rooms = λ class lt. is.rooms class lt ∙ rooms_kept old new class same.size
-          (λ page. room-same old new page class (is_small_page-same old new inside page (same.pages page).descriptor) (same.pages page).descriptor (same.pages page).bitmap);
-    }
 
 -- the same words, but for the object's state, its commit word and its entries
 pub record SameButEntries (old new : List ℕ) (object : ℕ) : Type 0 where

@@ -13,9 +13,8 @@ use Rattle.pm_model.proofs.Alone.{length-words_after}
 use Rattle.pm_model.proofs.PlanLaw.{words_after-kept}
 use Rattle.pm_model.proofs.Cuts.{is_among, footprint-stores, AreApartBelow, stores_part, stores-written, finished-append}
 use Rattle.heap_palloc.specs.Index.{HeapIndex, IsIndexOf}
-use Rattle.heap_palloc.proofs.LiveBlocks.{SameHeap, inside_from, is_inside-same, is_small_page-same}
-use Rattle.heap_palloc.proofs.Rooms.{free-same, room-same, rooms_kept}
-use Rattle.heap_palloc.proofs.Reindex.{runs_of, runs_kept}
+use Rattle.heap_palloc.proofs.LiveBlocks.{SameHeap}
+use Rattle.heap_palloc.proofs.SameHeaps.{index_kept}
 use Rattle.txn_object.specs.Extension.{Extension, new_segment, source_parts, segment_from, zero_part, readying_parts, extension_parts, MayExtend}
 use Rattle.txn_object.specs.Calls.{IsExtensionPlanned, IsSegmentPlanned}
 use Rattle.txn_object.specs.Shown.{IsOutside}
@@ -117,18 +116,6 @@ readied_zero object count segment w words from to far there =
     get_or-set_other (words_after (zero_part segment) words) (ready_at object) w (count + 1) 0 (λ e. omega (arith, e, far, from)) ∙ zero-in segment w words from to (omega (arith, to, there))
 
 -- ── the index of the heap ──
-
-index_kept : (old new : List ℕ) (index : HeapIndex) → SameHeap old new → IsIndexOf old index → IsIndexOf new index
-index_kept old new index same is =
-    let inside = inside_from old new (λ page. (same.pages page).descriptor) in
-    let runs = runs_kept old new same.size index.free (runs_of old index is) (λ page. free-same old new page (is_inside-same old new inside page) (same.pages page).descriptor) in
-    record {
-      well_formed = runs.well_formed;
-      pages = runs.pages;
-      runs = runs.each;
-      rooms = λ class lt. is.rooms class lt ∙ rooms_kept old new class same.size
-          (λ page. room-same old new page class (is_small_page-same old new inside page (same.pages page).descriptor) (same.pages page).descriptor (same.pages page).bitmap);
-    }
 
 pub extension_index : (words : List ℕ) (e : Extension) (index : HeapIndex) → MayExtend words e → IsIndexOf (finished (source_parts words e.source) words) index → IsIndexOf (finished (extension_parts words e) words) index
 extension_index words e index may is =

@@ -7,6 +7,7 @@ use Rattle.std.proofs.lemmas.List.Sums.{sum_by-append}
 use Rattle.std.proofs.lemmas.List.FromFn.{map-range_with_len_more}
 use Rattle.pm_model.specs.declared.action.Action.{Action}
 use Rattle.pm_model.specs.Plans.{store, stores}
+use Rattle.pm_model.proofs.Ranges.{range_more}
 use Rattle.txn_object.specs.declared.entry.Entry.{Entry}
 use Rattle.txn_object.specs.Entries.{entry_of}
 
@@ -59,14 +60,6 @@ row-end words first nth count list all none is = sym (append-nil list) ∙ ap (�
 pub count_by-append : (p : ℕ → Bool) (xs ys : List ℕ) → count_by p (xs ++ ys) ≡ count_by p xs + count_by p ys
 count_by-append p xs ys = sum_by-append (λ x. cond (p x) 1 0) xs ys
 
-range-more : (first count : ℕ) → range_with_len first (count + 1) ≡ range_with_len first count ++ (first + count) ∷ []
-range-more first zero = let same : first ≡ first + 0 = omega arith in ap (λ (n : ℕ). n ∷ []) same
-range-more first (suc count) =
-    let more : suc count + 1 ≡ suc (count + 1) = omega arith in
-    let same : first + 1 + count ≡ first + suc count = omega arith in
-    ap (λ (n : ℕ). range_with_len first n) more
-    ∙ ap (λ (l : List ℕ). first ∷ l) (range-more (first + 1) count ∙ ap (λ (n : ℕ). range_with_len (first + 1) count ++ n ∷ []) same)
-
 -- how many of the words in a row are 0
 abbrev pub zeros_in_row : List ℕ → ℕ → ℕ → ℕ
 zeros_in_row words at count = count_by (λ w. eqb (get_or words w 0) 0) (range_with_len at count)
@@ -74,7 +67,7 @@ zeros_in_row words at count = count_by (λ w. eqb (get_or words w 0) 0) (range_w
 free-next : (words : List ℕ) (first nth : ℕ) → zeros_in_row words first (nth + 1) ≡ zeros_in_row words first nth + cond (eqb (get_or words (first + nth) 0) 0) 1 0
 free-next words first nth =
     let one : count_by (λ w. eqb (get_or words w 0) 0) ((first + nth) ∷ []) ≡ cond (eqb (get_or words (first + nth) 0) 0) 1 0 = omega arith in
-    ap (λ (l : List ℕ). count_by (λ w. eqb (get_or words w 0) 0) l) (range-more first nth)
+    ap (λ (l : List ℕ). count_by (λ w. eqb (get_or words w 0) 0) l) (range_more first nth)
     ∙ count_by-append (λ w. eqb (get_or words w 0) 0) (range_with_len first nth) ((first + nth) ∷ [])
     ∙ ap (λ (n : ℕ). zeros_in_row words first nth + n) one
 

@@ -1,29 +1,25 @@
 -- Segments as blocks of the heap: each is the one slot of a small page.
-use Rattle.std.proofs.Common.{◌≡◌, ⊎_elim, ℕ, ◌+◌, ◌-◌, ◌*◌, ◌^◌, ◌<◌, ◌≤◌, true, not, leb, List, [], ◌∷◌, length, sym, ◌∙◌, ap, subst, arith, pow_mono}
+use Rattle.std.proofs.Common.{◌≡◌, ⊎_elim, ℕ, ◌+◌, ◌-◌, ◌*◌, ◌^◌, ◌<◌, ◌≤◌, true, not, leb, List, length, sym, ◌∙◌, ap, subst, arith, pow_mono}
 use Rattle.std.specs.Prelude.{Contains}
 use Rattle.std.specs.Int.{bit_at}
 use Rattle.std.proofs.lemmas.Bool.{cases_lt, leb-true, and_parts, and_from, not_from_false}
 use Rattle.std.proofs.lemmas.List.{length-append}
 use Rattle.std.proofs.lemmas.Grind.{flat_map-append}
 use Rattle.pm_model.specs.declared.action.Action.{Action}
-use Rattle.pm_model.specs.Fixed.{lane_op_at}
-use Rattle.pm_model.specs.Pointer.{pointer_word}
 use Rattle.pm_model.specs.Places.{page_count}
-use Rattle.pm_model.specs.Plans.{Part, plan_of, part_actions, one_store}
+use Rattle.pm_model.specs.Plans.{plan_of, part_actions}
 use Rattle.pm_model.specs.Blocks.{Block, slot_words, slots_of, slot_at, says_small, descriptor_of, class_of, bitmap_of, is_inside, is_small_page, live_blocks}
 use Rattle.pm_model.specs.Objects.{segment_of}
 use Rattle.pm_model.proofs.Heap.{page_of_block, small_class, IsSmallOf, IsBigOf}
-use Rattle.pm_model.proofs.Lines.{length-lines_of}
 use Rattle.heap_big.specs.declared.run.Run.{Run}
-use Rattle.heap_palloc.specs.Lane.{mark_at}
-use Rattle.heap_palloc.specs.Parts.{Allocation, lane_part, allocation_parts, new_page_parts}
+use Rattle.heap_palloc.specs.Parts.{allocation_parts, new_page_parts}
 use Rattle.heap_palloc.specs.Law.{IsHeapPage, taking, slot_allocation}
 use Rattle.heap_palloc.specs.Choice.{Choice, in_page, on_new_page, in_run, choice_parts, choice_block, choice_page, IsChosen, MayMake}
 use Rattle.heap_small.specs.Bitmap.{with_bit}
 use Rattle.heap_palloc.specs.Calls.{KeepsHeapRules}
 use Rattle.heap_palloc.proofs.Dests.{small_heap_page}
+use Rattle.heap_palloc.proofs.Lengths.{allocation_length}
 use Rattle.txn_object.specs.Extension.{Source, owned, allocated, segment_from, segment_block, HasSegments, IsNoSegment, MayTake}
-use Rattle.txn_object.proofs.Clears.{length-part_actions}
 
 -- where a segment stands: behind the first line of a page of the heap
 pub record StandsOn (words : List ℕ) (segment page : ℕ) : Type 0 where
@@ -121,19 +117,6 @@ source_stands words object rules (allocated choice) may = of_choice choice may.0
     of_choice (in_run r) made size = absurd (omega (arith, size))
 
 -- ── how many actions its plan has ──
-
--- a part has no more flushes than stores, and one fence
-pub part_length : (part : Part) → length (part_actions part) ≤ 2 * length part + 1
-part_length part = let all = length-part_actions part in let most = length-lines_of part in omega (arith, all, most)
-
-abbrev logged_parts : Allocation → List Part
-logged_parts a = one_store (lane_op_at a.lane) 1 ∷ one_store (mark_at a.block) a.marked ∷ one_store a.owner (pointer_word a.block) ∷ one_store (lane_op_at a.lane) 0 ∷ []
-
-allocation_length : (a : Allocation) → length (plan_of (allocation_parts a)) ≤ 17
-allocation_length a =
-    let lane = part_length (lane_part a) in
-    let all = length-append (part_actions (lane_part a)) (plan_of (logged_parts a)) in
-    omega (arith, lane, all)
 
 pub choice_length : (words : List ℕ) (runs : List Run) (choice : Choice) → IsChosen words runs 256 choice → length (plan_of (choice_parts words choice)) ≤ 23
 choice_length words runs (in_page s) chosen = let most = allocation_length (taking words s) in omega (arith, most)

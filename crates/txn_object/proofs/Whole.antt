@@ -1,5 +1,5 @@
 -- The extension of an object as a whole: the segment allocated or owned already, and then made ready.
-use Rattle.std.proofs.Common.{◌≡◌, ◌≢◌, ◌⊎◌, inl, inr, ⊎_elim, eqb, ℕ, suc, ◌+◌, ◌/◌, ◌%◌, ◌<◌, ◌≤◌, List, [], ◌∷◌, ◌++◌, length, get_or, refl, sym, ◌∙◌, ap, subst, arith}
+use Rattle.std.proofs.Common.{◌≡◌, ◌≢◌, ◌⊎◌, inl, inr, ⊎_elim, eqb, ℕ, suc, ◌+◌, ◌%◌, ◌<◌, ◌≤◌, List, [], ◌∷◌, ◌++◌, length, get_or, refl, sym, ◌∙◌, ap, subst, arith}
 use Rattle.std.specs.Prelude.{Contains}
 use Rattle.std.proofs.lemmas.Bool.{cases_lt, or_left, or_right, eq-eqb}
 use Rattle.pm_model.specs.declared.action.Action.{Action}
@@ -21,14 +21,14 @@ use Rattle.heap_palloc.specs.Choice.{Choice, in_page, on_new_page, in_run, choic
 use Rattle.heap_palloc.proofs.Stages.{pointer-some}
 use Rattle.heap_palloc.proofs.Changes.{change_settles}
 use Rattle.heap_palloc.proofs.Choices.{choice_plan, choice_allocates}
-use Rattle.heap_palloc.proofs.RulesKept.{rules_from, rules_at, kept_same, choice_rules}
-use Rattle.heap_palloc.proofs.LiveBlocks.{SameHeap, inside_from, is_inside-same}
+use Rattle.heap_palloc.proofs.RulesKept.{choice_rules}
+use Rattle.heap_palloc.proofs.SameHeaps.{rules_same}
+use Rattle.heap_palloc.proofs.Settled.{gained_live}
+use Rattle.heap_palloc.proofs.Owners.{more_live}
 use Rattle.heap_palloc.specs.Calls.{KeepsHeapRules}
-use Rattle.std.proofs.lemmas.List.Elements.{Contains-append_left, Contains-append_right, Contains-append_cases}
 use Rattle.std.proofs.lemmas.List.{length-append, get_or_append_left}
 use Rattle.std.proofs.Math.Seq.{get_or-append_seam}
 use Rattle.std.proofs.lemmas.List.FromFn.{length-map-range_with_len, get_or-map-range_with_len}
-use Rattle.pm_model.proofs.Members.{Contains-here, Contains-there}
 use Rattle.txn_object.specs.Extension.{Source, owned, allocated, Extension, new_segment, readying_parts, extension_parts, segment_block, HasSegments, MayExtend}
 use Rattle.txn_object.specs.Shown.{IsElsewhereOf, HasObject, IsUnextended, IsExtended}
 use Rattle.txn_object.proofs.Taken.{StandsOn, taken, source_stands}
@@ -49,21 +49,6 @@ apart_from_blocks words object number size whole has = record {
       let a = one.stands.first in let b = two.stands.first in let differ = segments_differ words object has.rule k other lt below in
       ⊎_elim (λ before. inl (omega (arith, before, a, b))) (λ after. inr (omega (arith, after, a, b, differ))) (cases_lt (segment_of words object k) (segment_of words object other));
 }
-
--- the same heap keeps its rules
-pub rules_same : (old new : List ℕ) → SameHeap old new → KeepsHeapRules old → KeepsHeapRules new
-rules_same old new same rules =
-    rules_from new (λ page lt. kept_same old new page (is_inside-same old new (inside_from old new (λ p. (same.pages p).descriptor)) page) (same.pages page).descriptor (same.pages page).bitmap
-    (rules_at old rules page (subst (λ (n : ℕ). page < n / 512) same.size lt)))
-
-pub gained-new : {A : Type 0} (old : List A) (one : A) (new : List A) → GainsOne old one new → Contains new one
-gained-new old one new gains = subst (λ (xs : List _). Contains xs one) (sym gains.new_is) (Contains-append_right gains.front (one ∷ gains.back) one (Contains-here one gains.back))
-
-pub gained-old : {A : Type 0} (old : List A) (one x : A) (new : List A) → GainsOne old one new → Contains old x → Contains new x
-gained-old old one x new gains within = subst (λ (xs : List _). Contains xs x) (sym gains.new_is) (⊎_elim
-    (λ front. Contains-append_left gains.front (one ∷ gains.back) x front)
-    (λ back. Contains-append_right gains.front (one ∷ gains.back) x (Contains-there one x gains.back back))
-    (Contains-append_cases gains.front gains.back x (subst (λ (xs : List _). Contains xs x) gains.old_is within)))
 
 choice_gains : (base : List ℕ) (choice : Choice) → MayMake base choice → GainsOne (live_blocks base) (choice_block choice) (live_blocks (finished (choice_parts base choice) base))
 choice_gains base (in_page s) may = (choice_allocates base (in_page s) may).gains
@@ -240,8 +225,8 @@ module _ (base : List ℕ) (object : ℕ) (choice : Choice) (may : MayExtend bas
 
   again_here : HasSegments (finished (extension_parts base (record { object = object; source = allocated choice })) base) object
   again_here = end_again base (record { object = object; source = allocated choice }) may page stands (finished (choice_parts base choice) base) at (choice_rules base choice may.segments.rules may.source.0)
-      (gained-new (live_blocks base) (segment_block (choice_block choice).first) (live_blocks (finished (choice_parts base choice) base)) gains)
-      (λ block within. gained-old (live_blocks base) (segment_block (choice_block choice).first) block (live_blocks (finished (choice_parts base choice) base)) gains within)
+      (gained_live (live_blocks base) (live_blocks (finished (choice_parts base choice) base)) (segment_block (choice_block choice).first) gains)
+      (λ block within. more_live (live_blocks base) (live_blocks (finished (choice_parts base choice) base)) (segment_block (choice_block choice).first) block gains within)
 
   pub allocated_shown : IsShown base (record { object = object; source = allocated choice })
   allocated_shown = record {

@@ -2,7 +2,7 @@ use Rattle.std.proofs.Common.{◌≡◌, ◌∙◌, ◌+◌, ◌++◌, List, len
 use Rattle.std.proofs.lemmas.List.{length-append}
 use Rattle.pm_model.specs.declared.action.Action.{Action}
 use Rattle.pm_model.specs.Plans.{part_end}
-use Rattle.engine_core.proofs.Stores.{length-lines_of}
+use Rattle.pm_model.proofs.Lines.{length-lines_of}
 use Rattle.engine_core.proofs.StampPlans.{drop-all_of, length-stamp_actions, length-stamp_part}
 use Rattle.engine_core.proofs.plans.push_stamps.Goals as goal
 

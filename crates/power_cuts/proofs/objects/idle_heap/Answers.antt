@@ -1,11 +1,12 @@
 use Rattle.std.proofs.Common.{arith}
-use Rattle.power_cuts.proofs.Kept.{keeps_object, keeps_objects}
+use Rattle.pm_model.proofs.OwnedBlocks.{one_object}
+use Rattle.power_cuts.proofs.Kept.{keeps_objects}
 use Rattle.power_cuts.proofs.Extending.{idle_extendable}
 use Rattle.power_cuts.proofs.objects.idle_heap.Goals as goal
 
 pub free_entries-requires-clause-rule : goal.free_entries-requires-clause-rule
 free_entries-requires-clause-rule g c =
-    keeps_object (g.M.Memory.device c.args.memory.now).cached 0 (omega arith) (keeps_objects (g.M.Memory.device c.args.memory.now).cached c.requires.rules)
+    one_object (g.M.Memory.device c.args.memory.now).cached 0 (keeps_objects (g.M.Memory.device c.args.memory.now).cached c.requires.rules) (omega arith)
 
 pub returns : goal.returns
 returns g c =

@@ -3,8 +3,8 @@ use Rattle.pm_model.specs.Checks.{Keeps}
 use Rattle.pm_model.specs.EntryRules.{table_slot_rule, objects_rule}
 use Rattle.shown_state.specs.LaneRules.{KeepsLaneRules}
 use Rattle.pmem_recover.specs.Undo.{KeepsUndoRules}
-use Rattle.pmem_recover.proofs.FirstFault.{entry-lanes}
-use Rattle.power_cuts.proofs.Kept.{keeps_table_slots, keeps_objects, keeps_undo}
+use Rattle.pmem_recover.proofs.FirstFault.{entry-lanes, entry-undo}
+use Rattle.power_cuts.proofs.Kept.{keeps_table_slots, keeps_objects}
 use Rattle.power_cuts.proofs.opening.next_plan.Goals as goal
 
 pub next_lane-requires : goal.next_lane-requires
@@ -16,7 +16,7 @@ next_slot-requires g c =
     subst P (c.deref.ensures.value ∙ c.in_ok-words.ensures.words) (keeps_table_slots c.deref.result.now c.in-Ok.ensures.sound)
 
 pub next_undo-requires : goal.next_undo-requires
-next_undo-requires g c = subst KeepsUndoRules (c.deref.ensures.value ∙ c.in_ok-words.ensures.words) (keeps_undo c.deref.result.now c.in-Ok.ensures.sound)
+next_undo-requires g c = subst KeepsUndoRules (c.deref.ensures.value ∙ c.in_ok-words.ensures.words) (entry-undo c.deref.result.now c.in-Ok.ensures.sound)
 
 pub next_clear-requires : goal.next_clear-requires
 next_clear-requires g c =

@@ -1,7 +1,7 @@
 use Rattle.pm_model.specs.Fixed.{entry_at}
 use Rattle.txn_object.specs.Entries.{entry_word}
+use Rattle.txn_object.proofs.Entering.{others-one_store, clean-one_store}
 use Rattle.pm_model.proofs.Cuts.{one_store-cut}
-use Rattle.stage_object.proofs.Cuts.{others-one_store, clean-one_store}
 use Rattle.stage_object.proofs.OneStore.{entry_after, entry_packed, entry_shows, entry_ends}
 use Rattle.stage_object.proofs.laws.entry_law.Goals as goal
 

@@ -5,11 +5,12 @@ use Rattle.pm_model.specs.Plans.{part_actions}
 use mir.Val.{bool_byte}
 use Rattle.pm_model.specs.Checks.{Keeps}
 use Rattle.pm_model.specs.EntryRules.{object_rule}
+use Rattle.pm_model.proofs.Lines.{length-part_actions}
 use Rattle.std.proofs.lemmas.Bool.{cases_lt}
 use Rattle.txn_object.specs.Object.{clear_part}
 use Rattle.txn_object.proofs.Rule.{at_most_32}
 use Rattle.txn_object.proofs.Places.{length-entry_places}
-use Rattle.txn_object.proofs.Clears.{Ends, ends_part, length-clear_part, length-part_actions, bit_is, bit_most}
+use Rattle.txn_object.proofs.Clears.{Ends, ends_part, length-clear_part, bit_is, bit_most}
 use Rattle.txn_object.proofs.object.push_clear.Goals as goal
 
 -- the stores that it ends

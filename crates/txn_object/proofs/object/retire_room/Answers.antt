@@ -2,9 +2,9 @@ use Rattle.std.proofs.Common.{◌≡◌, ◌⊎◌, inl, inr, ⊎_elim, ◌<◌,
 use Rattle.std.proofs.lemmas.Bool.{cases_lt}
 use Rattle.pm_model.specs.Plans.{plan_of}
 use Rattle.pm_model.specs.Objects.{entry_places}
+use Rattle.pm_model.proofs.Lines.{part_length}
 use Rattle.txn_object.specs.Object.{clear_part, retire_parts}
 use Rattle.txn_object.proofs.Clears.{length-clear_part, retire_length_some, retire_length_none, bit_is}
-use Rattle.txn_object.proofs.Taken.{part_length}
 use Rattle.txn_object.proofs.object.retire_room.Goals as goal
 
 some_room : (words : List ℕ) (object entries : ℕ) (word : Bool) → entries ≤ length (entry_places words object) → (0 < entries) ⊎ ((entries ≤ 0) × (word ≡ true))

@@ -1,9 +1,10 @@
 -- Lists made of the numbers of a range, as the range grows.
-use Rattle.std.proofs.Common.{◌≡◌, ⊎_elim, ℕ, zero, suc, ◌+◌, Bool, true, false, cond, List, [], ◌∷◌, ◌++◌, map, refl, sym, ◌∙◌, ap, arith, append_assoc, append-nil}
+use Rattle.std.proofs.Common.{◌≡◌, ⊎_elim, ℕ, zero, suc, ◌+◌, ◌<◌, ◌≤◌, Bool, true, false, cond, List, [], ◌∷◌, ◌++◌, map, refl, sym, ◌∙◌, ap, arith, append_assoc, append-nil}
 use Rattle.std.specs.List.{range_with_len, filter}
 use Rattle.std.proofs.lemmas.List.{map-append}
 use Rattle.std.proofs.lemmas.List.Elements.{filter-append}
 use Rattle.std.proofs.lemmas.Bool.{cases_Bool, cond-true, cond-false}
+use Rattle.pm_model.specs.Places.{below}
 
 -- a range is one up to a place and one from there on
 pub range_append : (a m n : ℕ) → range_with_len a (m + n) ≡ range_with_len a m ++ range_with_len (a + m) n
@@ -29,6 +30,15 @@ pub filter_append : (p : ℕ → Bool) (a m n : ℕ) → filter p (range_with_le
 filter_append p a m n = ap (filter p) (range_append a m n) ∙ filter-append p (range_with_len a m) (range_with_len (a + m) n)
 
 -- one number more
+pub range_more : (a n : ℕ) → range_with_len a (n + 1) ≡ range_with_len a n ++ (a + n) ∷ []
+range_more a n = range_append a n 1
+
+pub below_more : (n : ℕ) → below (n + 1) ≡ below n ++ n ∷ []
+below_more n = range_more 0 n ∙ ap (λ (k : ℕ). below n ++ k ∷ []) (first n)
+  where
+    first : (k : ℕ) → 0 + k ≡ k
+    first k = omega arith
+
 pub map_more : {A : Type 0} (f : ℕ → A) (a n : ℕ) → map f (range_with_len a (n + 1)) ≡ map f (range_with_len a n) ++ f (a + n) ∷ []
 map_more f a n = map_append f a n 1
 
@@ -59,3 +69,10 @@ filter_last p xs rest x =
     one : (b : Bool) → cond b (x ∷ []) [] ++ rest ≡ cond b (x ∷ rest) rest
     one true = refl
     one false = refl
+
+-- the same of each number
+pub map_same : {A : Type 0} (f g : ℕ → A) (a n : ℕ) → ((k : ℕ) → a ≤ k → k < a + n → f k ≡ g k) → map f (range_with_len a n) ≡ map g (range_with_len a n)
+map_same f g a zero same = refl
+map_same f g a (suc n) same =
+    ap (λ (x : _). x ∷ map f (range_with_len (a + 1) n)) (same a (omega arith) (omega arith))
+    ∙ ap (λ (l : List _). g a ∷ l) (map_same f g (a + 1) n (λ k le lt. same k (omega (arith, le)) (omega (arith, lt))))
