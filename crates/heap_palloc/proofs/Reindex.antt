@@ -1,9 +1,10 @@
 -- The index of a heap after one page changed.
-use Rattle.std.proofs.Common.{◌≡◌, ◌≢◌, ◌⊎◌, inl, inr, ⊎_elim, ℕ, ◌+◌, ◌/◌, ◌<◌, ◌≤◌, Bool, true, false, not, ◌&&◌, eqb, leb, List, length, sym, ◌∙◌, ap, subst, arith}
+use Rattle.std.proofs.Common.{◌≡◌, ◌≢◌, inl, inr, ⊎_elim, ℕ, ◌+◌, ◌/◌, ◌<◌, ◌≤◌, Bool, true, false, not, ◌&&◌, eqb, leb, List, length, sym, ◌∙◌, ap, subst, arith}
 use Rattle.std.specs.Prelude.{◌↔◌}
-use Rattle.std.proofs.lemmas.Bool.{cases_Bool, cases_eq, cases_lt, both_ways, eq-eqb, ne_eqb, and_left, and_right, lt-leb}
+use Rattle.std.proofs.lemmas.Bool.{cases_Bool, cases_eq, both_ways, eq-eqb, ne_eqb, and_left, and_right, lt-leb}
 use Rattle.pm_model.specs.Places.{page_count}
 use Rattle.pm_model.specs.Blocks.{says_small, descriptor_of, class_of, bitmap_of, is_inside, is_free_page, is_small_page}
+use Rattle.heap_big.proofs.Heads.{has_or_not}
 use Rattle.heap_big.specs.declared.run.Run.{Run}
 use Rattle.heap_big.specs.Runs.{FreeRuns, HasPage, IsFree, IsWellFormed, Adds, Removes}
 use Rattle.heap_big.specs.Pages.{IsRising}
@@ -23,11 +24,6 @@ pub record AreRunsOf (words : List ℕ) (free : FreeRuns) : Type 0 where
 
 pub runs_of : (words : List ℕ) (index : HeapIndex) → IsIndexOf words index → AreRunsOf words index.free
 runs_of words index is = record { well_formed = is.well_formed; pages = is.pages; each = is.runs }
-
-has_or_not : (run : Run) (page : ℕ) → HasPage run page ⊎ (HasPage run page → ⊥)
-has_or_not run page = ⊎_elim (λ below. inr (λ h. omega (arith, below, h.0)))
-    (λ from. ⊎_elim (λ to. inl (from, to)) (λ behind. inr (λ h. omega (arith, behind, h.1))) (cases_lt page (run.first + run.pages)))
-    (cases_lt page run.first)
 
 module _ (old new : List ℕ) (size : length new ≡ length old) (free : FreeRuns) (are : AreRunsOf old free) where
   counted : (n : ℕ) → n ≡ page_count old → n ≡ page_count new
