@@ -1,4 +1,4 @@
-use Rattle.std.proofs.Common.{ℕ, ◌∙◌, ap}
+use Rattle.std.proofs.Common.{ℕ, ◌∙◌, ap, rules}
 use Rattle.pm_model.specs.Owners.{owner_of, chunk_owner}
 use Rattle.pm_model.specs.Arrays.{chunk_pointer_at}
 use Rattle.image_rules.proofs.OwnerWalk.{named_next}
@@ -9,3 +9,6 @@ loop-chunk-preserved c =
     named_next c.args.words.now (chunk_owner c.args.header.0) c.loop-chunk.chunk c.chunk_pointer-pointer.result.0 c.chunk_words.result c.args.owners.now.items c.loop-chunk.owners.items c.push_if_named.new.owners.items
     (ap (λ (p : ℕ). owner_of p c.chunk_words.result) c.chunk_pointer-pointer.ensures ∙ ap (owner_of (chunk_pointer_at c.args.header.0 c.loop-chunk.chunk)) c.chunk_words.ensures.words)
     c.loop-chunk.invariant c.in_ok-push_if_named.ensures
+
+pub returns : goal.returns
+returns c = search rules
