@@ -1,4 +1,4 @@
-use Rattle.std.proofs.Common.{sym, ◌∙◌, below_more, arith}
+use Rattle.std.proofs.Common.{sym, ◌∙◌, below_more, arith, rules}
 use Rattle.image_rules.proofs.TableChecks.{slots_none, slots_some}
 use Rattle.image_rules.proofs.table_rules.table_slot_fault.Goals as goal
 
@@ -11,3 +11,6 @@ returns-then-not-is_table_slot c =
 
 pub returns : goal.returns
 returns c = slots_none c.args.words.now (λ x lt. c.loop-table.invariant x (omega (arith, lt, c.loop-table-test.false)))
+
+pub loop-table-init : goal.loop-table-init
+loop-table-init c = search rules
