@@ -1,19 +1,18 @@
 -- The status that a call ends with is one that is due.
-use Rattle.std.proofs.Common.{◌≡◌, ◌⊎◌, inl, inr, ℕ, ◌+◌, ◌<◌, ◌≤◌, ◌∙◌, Bool, true, false, List, [], ◌++◌, length, Option, None, Some, Ok, Err, refl, ap, sym, subst, append-nil, length-append, arith}
+use Rattle.std.proofs.Common.{◌≡◌, inl, inr, ℕ, ◌+◌, ◌≤◌, ◌∙◌, Bool, true, false, List, ◌++◌, length, Option, None, Some, Ok, refl, ap, sym, subst, append-nil, length-append, arith}
 use Rattle.std.specs.Prelude.{IfSome, Result, nat_lt}
-use Rattle.std.specs.Io.KnownBytes.{Consumes, IsAtEnd}
 use Rattle.std.proofs.lemmas.Bool.Decides.{nat_tests}
 use Rattle.io_edge.specs.declared.reading.TheConstants.{LIMIT}
 use Rattle.pm_model.specs.declared.action.Keep.{Keep}
 use Rattle.pm_model.specs.Checks.{Fault}
 use Rattle.pm_image.specs.declared.error.ImageError.{ImageError}
 use Rattle.pm_image.specs.Fault.{first_fault}
-use Rattle.pm_image.specs.Spelling.{IsImage, spelling}
+use Rattle.pm_image.specs.Spelling.{spelling}
 use Rattle.pm_image.proofs.Again.{no_fault, one_spelling}
 use Rattle.engine_core.specs.Opening.{opening_fault}
 use Rattle.script_text.specs.declared.script.Line.{Line}
 use Rattle.script_text.specs.declared.error.ScriptError.{ScriptError}
-use Rattle.script_text.specs.Script.{script_of}
+use Rattle.script_text.specs.Reading.{script_of}
 use Rattle.session_serve.specs.declared.words.Job.{Job}
 use Rattle.session_serve.specs.declared.words.Job.TheVariants as job
 use Rattle.session_serve.specs.declared.status.Status.{Status}

@@ -1,5 +1,5 @@
 -- What is known of a run when it ends.
-use Rattle.std.proofs.Common.{◌≡◌, ◌≢◌, ◌⊎◌, inl, inr, ℕ, ◌+◌, ◌<◌, ◌∙◌, false, List, [], ◌∷◌, ◌++◌, length, Option, None, Some, refl, ap, sym, subst, append-nil, append_assoc, arith}
+use Rattle.std.proofs.Common.{◌≡◌, ◌≢◌, ◌⊎◌, inl, inr, ℕ, ◌+◌, ◌∙◌, false, List, [], ◌∷◌, ◌++◌, length, Option, None, Some, refl, ap, sym, subst, append-nil, append_assoc, arith}
 use Rattle.mv_model.specs.declared.call.Call.{Call}
 use Rattle.mv_model.specs.declared.call.Call.TheVariants as call
 use Rattle.mv_model.specs.declared.reply.Reply.TheVariants as reply
@@ -17,12 +17,12 @@ use Rattle.engine_core.specs.Opening.{opening_fault, recovered}
 use Rattle.engine_core.specs.Recoverable.{IsRecoverable, MayRecoverTo, undecided}
 use Rattle.script_text.specs.declared.script.Line.{Line}
 use Rattle.script_text.specs.Printed.{history_text}
-use Rattle.script_text.specs.Script.{said_in, statements_of}
-use Rattle.session_serve.specs.Moments.{AreFullWhere, EndsInCall, IsFinished, IsFirstAt, IsFrontOf, IsRun, IsUncut, calls_of}
+use Rattle.script_text.specs.Script.{statements_of}
+use Rattle.session_serve.specs.Moments.{AreFullWhere, IsFirstAt, IsFrontOf, IsRun, IsUncut, calls_of}
 use Rattle.session_serve.specs.declared.playing.Ending.{Ending}
 use Rattle.session_serve.specs.declared.playing.Ending.TheVariants as ending
 use Rattle.session_serve.specs.Parts.{LeavesBy, kept_by}
-use Rattle.session_serve.specs.Playing.{EndsLines, HasRun, IsBefore, IsCounted, IsFresh, IsInCall, Plays, StopsAtOnce, StopsInLine, moment_of}
+use Rattle.session_serve.specs.Playing.{said_in, EndsLines, IsBefore, IsCounted, IsFresh, IsInCall, Plays, StopsAtOnce, StopsInLine, moment_of}
 use Rattle.session_serve.specs.Runs.{Finishes, IsCutOff}
 use Rattle.session_serve.proofs.Lines.{full-more, same-more, statements_of-append}
 

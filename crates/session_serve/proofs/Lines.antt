@@ -1,11 +1,12 @@
 -- What the lines of a script leave, one after the other.
-use Rattle.std.proofs.Common.{◌≡◌, ◌≢◌, ◌⊎◌, inl, inr, ℕ, ◌+◌, ◌<◌, ◌==◌, ◌∙◌, Bool, true, false, cond, IsTrue, List, [], ◌∷◌, ◌++◌, length, map, filter, Option, None, Some, refl, ap, sym, subst, get_or, take, drop, take-append-drop, append-nil, length-append, arith}
+use Rattle.std.proofs.Common.{◌≡◌, ◌≢◌, ◌⊎◌, inl, inr, ℕ, ◌+◌, ◌<◌, ◌==◌, ◌∙◌, Bool, true, false, cond, IsTrue, List, [], ◌∷◌, ◌++◌, length, map, Option, refl, ap, sym, subst, get_or, take, drop, take-append-drop, append-nil, length-append, arith}
 use Rattle.std.specs.List.{All}
 use Rattle.std.proofs.lemmas.List.Elements.{All-append, All-cons, All-nil, filter-append}
+use Rattle.std.proofs.lemmas.Bool.Decides.{eqb_tells}
+use Rattle.std.proofs.lemmas.Grind.{flat_map-append}
 use Rattle.std.proofs.lemmas.List.{drop_more, map-append, map-id}
+use Rattle.sf_value.proofs.Digits.{and-right}
 use Rattle.mv_model.specs.declared.call.Call.{Call}
-use Rattle.mv_model.specs.declared.call.Call.TheVariants as call
-use Rattle.mv_model.specs.declared.value.Value.TheVariants.{Int, Text}
 use Rattle.mv_model.specs.declared.reply.Entry.{Entry}
 use Rattle.mv_model.specs.State.{State}
 use Rattle.mv_model.specs.Next.{next}
@@ -13,33 +14,16 @@ use Rattle.mv_model.specs.History.{entries_of, state_after}
 use Rattle.pm_model.specs.Device.{Device}
 use Rattle.engine_core.specs.Actions.{actions_in}
 use Rattle.engine_core.specs.Decided.{IsFullWhere}
-use Rattle.engine_core.specs.CoreState.{CoreState, InFlight, Nothing}
+use Rattle.engine_core.specs.CoreState.{CoreState, InFlight}
 use Rattle.engine_core.specs.LogicalState.{logical_state}
 use Rattle.engine_core.specs.Served.{is_served}
 use Rattle.script_text.specs.declared.script.Line.{Line}
 use Rattle.script_text.specs.declared.script.Line.TheVariants as line
-use Rattle.script_text.specs.Script.{IsBuiltLine, is_built, is_of, said_in, statements_of}
+use Rattle.built_calls.specs.Built.{is_built}
+use Rattle.script_text.specs.Script.{IsBuiltLine, asked_by, statements_of}
 use Rattle.session_serve.specs.Moments.{AreFullWhere, calls_of}
 use Rattle.session_serve.specs.declared.playing.Ending.TheVariants as ending
-use Rattle.session_serve.specs.Playing.{EndsCall, EndsLines, HasEntry, HasRun, IsBefore, IsCounted, IsFresh, IsInCall, Plays, StopsAtOnce, StopsInLine, WasGiven}
-
--- what a line can say is served
-pub served-built : (said : Call) → IsTrue (is_built said) → IsTrue (is_served said)
-served-built call.Begin built = built
-served-built call.Commit built = built
-served-built (call.Insert table (Int number ∷ [])) built = built
-served-built (call.Get table row) built = built
-served-built (call.Create name columns) built = cc
-served-built (call.Insert table []) built = cc
-served-built (call.Insert table (Int number ∷ second ∷ more)) built = cc
-served-built (call.Insert table (Text text ∷ more)) built = cc
-served-built (call.Update table row values) built = cc
-served-built (call.Delete table row) built = cc
-served-built (call.Scan table test) built = cc
-served-built (call.Count table test) built = cc
-served-built (call.Sum table column test) built = cc
-served-built call.Abort built = cc
-served-built (call.Defrag pages) built = cc
+use Rattle.session_serve.specs.Playing.{said_in, EndsCall, HasEntry, HasRun, IsBefore, IsCounted, IsFresh, IsInCall, Plays, StopsInLine, WasGiven}
 
 -- ── calls and statements ──
 
@@ -49,9 +33,7 @@ calls_of-append session front rest =
     ∙ map-append (λ (entry : Entry). entry.call) (entries_of session front) (entries_of session rest)
 
 pub statements_of-append : (session : ℕ) (front rest : List Line) → statements_of session (front ++ rest) ≡ statements_of session front ++ statements_of session rest
-statements_of-append session front rest =
-    ap (λ (lines : List Line). map said_in lines) (filter-append (is_of session) front rest)
-    ∙ map-append said_in (filter (is_of session) front) (filter (is_of session) rest)
+statements_of-append session front rest = flat_map-append (asked_by session) front rest
 
 abbrev call_if : Bool → Call → List Call
 call_if b said = cond b (said ∷ []) []
@@ -64,20 +46,25 @@ calls_of-one session entry = by_test (entry.session == session)
     by_test false = refl
 
 statements_of-one : (session speaker ordinal : ℕ) (said : Call) → statements_of session (line.Say speaker ordinal said ∷ []) ≡ call_if (speaker == session) said
-statements_of-one session speaker ordinal said = by_test (speaker == session)
-  where
-    by_test : (b : Bool) → map said_in (cond b (line.Say speaker ordinal said ∷ []) []) ≡ call_if b said
-    by_test true = refl
-    by_test false = refl
+statements_of-one session speaker ordinal said = append-nil (call_if (speaker == session) said)
+
+-- what the line of a statement says is served, and session 1 says it
+pub line-served : (speaker : ℕ) (said : Call) → IsTrue (is_built speaker said) → (speaker ≡ 1) × IsTrue (is_served said)
+line-served speaker said built =
+    elim (eqb_tells speaker 1) [
+      | inl w ↦ (w.1, and-right _ _ built)
+      | inr w ↦ absurd (let e : false ≡ true = rw w.0 at built in cc)
+    ]
 
 -- a line and its entry say the same
 pub same-one : (session : ℕ) (next : Line) (entry : Entry) → IsBuiltLine next → entry.session ≡ 1 → entry.call ≡ said_in next
     → calls_of session (entry ∷ []) ≡ statements_of session (next ∷ [])
 same-one session (line.Say speaker ordinal said) entry built is_one is_said =
     calls_of-one session entry
-    ∙ ap (λ (who : ℕ). call_if (who == session) entry.call) (is_one ∙ sym built.0)
+    ∙ ap (λ (who : ℕ). call_if (who == session) entry.call) (is_one ∙ sym (line-served speaker said built).0)
     ∙ ap (λ (said : Call). call_if (speaker == session) said) is_said
     ∙ sym (statements_of-one session speaker ordinal said)
+same-one session (line.Await speaker on nth) entry built is_one is_said = absurd cc
 
 pub same-more : (session : ℕ) (lines : List Line) (next : Line) (history : List Entry) (entry : Entry) → IsBuiltLine next → entry.session ≡ 1 → entry.call ≡ said_in next
     → calls_of session history ≡ statements_of session lines → calls_of session (history ++ entry ∷ []) ≡ statements_of session (lines ++ next ∷ [])

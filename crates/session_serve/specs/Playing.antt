@@ -1,5 +1,5 @@
 -- How a core comes through a script.
-use Rattle.std.specs.Prelude.{ℕ, ◌≡◌, ◌≢◌, ◌⊎◌, ◌+◌, ◌<◌, true, false, List, [], ◌∷◌, ◌++◌, All, length, Option, None, Some, Result, Ok, Err}
+use Rattle.std.specs.Prelude.{ℕ, ◌≡◌, ◌≢◌, ◌⊎◌, ◌+◌, ◌<◌, true, false, List, [], ◌∷◌, ◌++◌, All, length, Option, None, Some}
 use Rattle.mv_model.specs.declared.call.Call.{Call}
 use Rattle.mv_model.specs.declared.reply.Entry.{Entry}
 use Rattle.mv_model.specs.State.{State}
@@ -12,10 +12,17 @@ use Rattle.engine_core.specs.Decided.{IsFullWhere}
 use Rattle.engine_core.specs.CoreState.{CoreState, InFlight, Nothing, Unplaced, Last}
 use Rattle.engine_core.specs.LogicalState.{logical_state}
 use Rattle.script_text.specs.declared.script.Line.{Line}
-use Rattle.script_text.specs.Script.{IsBuiltLine, said_in, statements_of}
+use Rattle.script_text.specs.declared.script.Line.TheVariants as line
+use Rattle.mv_model.specs.declared.call.Call.TheVariants as call
+use Rattle.script_text.specs.Script.{IsBuiltLine, statements_of}
 use Rattle.session_serve.specs.declared.playing.Ending.{Ending}
 use Rattle.session_serve.specs.declared.playing.Ending.TheVariants as ending
 use Rattle.session_serve.specs.Moments.{AreFullWhere, Moment, calls_of}
+
+-- the call of a line; no await is built, so what stands here for one is never asked
+abbrev pub said_in : Line → Call
+said_in (line.Say speaker ordinal asked) = asked
+said_in (line.Await speaker on nth) = call.Begin
 
 -- the moment at which a core with this device is
 abbrev pub moment_of : {M : Type 0} → Device → CoreState M → Moment

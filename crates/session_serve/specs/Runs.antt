@@ -1,5 +1,5 @@
 -- What a call of `run` has done, by its status, and which statuses it may end with.
-use Rattle.std.specs.Prelude.{ℕ, ◌≡◌, ◌⊎◌, ◌+◌, ◌≤◌, ◌++◌, nat_lt, List, [], ◌∷◌, length, Option, None, Some, Result, Ok, Err, Bool, true, false}
+use Rattle.std.specs.Prelude.{ℕ, ◌≡◌, ◌⊎◌, ◌+◌, ◌≤◌, ◌++◌, nat_lt, List, length, Option, None, Some, Result, Ok, Err, Bool, true, false}
 use Rattle.std.specs.Io.KnownBytes.{Appends, Consumes, IsAtEnd}
 use Rattle.io_edge.specs.Transfer.{Loses}
 use Rattle.io_edge.specs.declared.reading.TheConstants.{LIMIT}
@@ -15,7 +15,7 @@ use Rattle.script_text.specs.declared.script.Line.{Line}
 use Rattle.script_text.specs.declared.error.ScriptError.{ScriptError}
 use Rattle.script_text.specs.declared.error.ScriptError.TheVariants as script_error
 use Rattle.script_text.specs.Printed.{history_text}
-use Rattle.script_text.specs.Script.{script_of}
+use Rattle.script_text.specs.Reading.{script_of}
 use Rattle.session_serve.specs.Moments.{IsFinished, IsFirstAt, IsRun, IsUncut, Moment}
 use Rattle.session_serve.specs.declared.words.Job.{Job}
 use Rattle.session_serve.specs.declared.words.Job.TheVariants as job

@@ -1,10 +1,9 @@
 -- The words of the command line.
-use Rattle.std.specs.Prelude.{ℕ, ◌≡◌, ◌==◌, ◌&&◌, ◌^◌, ◌≤◌, not, nat_eq, nat_lt, Bool, false, List, [], ◌∷◌, codes, Option, None, Some, option_map, option_and_then, Result, Ok, Err, if◌then◌else◌}
+use Rattle.std.specs.Prelude.{ℕ, take, drop, length, ◌≡◌, ◌==◌, ◌&&◌, ◌^◌, ◌≤◌, not, nat_eq, nat_lt, Bool, false, List, [], ◌∷◌, codes, Option, None, Some, option_map, option_and_then, Result, Ok, Err, if◌then◌else◌}
 use Rattle.std.specs.Cmp.Lexicographic.{pointwise}
 use Rattle.pm_model.specs.declared.action.Keep.{Keep}
 use Rattle.pm_model.specs.declared.action.Keep.TheVariants as keep
-use Rattle.script_text.specs.Number.{number_of}
-use Rattle.script_text.specs.Script.{after_words}
+use Rattle.sf_value.specs.Number.{number_of}
 use Rattle.session_serve.specs.declared.words.Command.{Command}
 use Rattle.session_serve.specs.declared.words.Command.TheVariants.{Run}
 use Rattle.session_serve.specs.declared.words.Job.{Job}
@@ -16,6 +15,11 @@ use Rattle.session_serve.specs.declared.words.WordsError.TheVariants as error
 -- the word is this one
 abbrev pub is_word : List ℕ → List ℕ → Bool
 is_word word this = pointwise nat_eq word this
+
+-- what follows these words, where the line begins with them
+abbrev pub after_words : List ℕ → List ℕ → Option (List ℕ)
+after_words words bytes =
+    if pointwise nat_eq (take (length words) bytes) words then Some (drop (length words) bytes) else None
 
 -- the word may name a file: it is not empty, and does not begin with a minus
 abbrev pub is_path : List ℕ → Bool

@@ -6,8 +6,8 @@ ghost use Rattle.mv_model.specs.declared.reply.Entry.{Entry};
 ghost use Rattle.engine_core.specs.CoreState.{Nothing, Unplaced};
 ghost use Rattle.engine_core.specs.LogicalState.{logical_state};
 ghost use Rattle.engine_core.specs.Served.{is_served};
-ghost use Rattle.script_text.specs.Script.{IsBuiltLine, said_in};
-ghost use Rattle.session_serve.specs.Playing.{EndsCall, EndsLines, HasRun, IsBefore, IsCounted, IsFresh, IsInCall, Plays};
+ghost use Rattle.script_text.specs.Script.{IsBuiltLine};
+ghost use Rattle.session_serve.specs.Playing.{said_in, EndsCall, EndsLines, HasRun, IsBefore, IsCounted, IsFresh, IsInCall, Plays};
 
 use engine_core::Core;
 use mv_model::{Call, NoMemory};
@@ -98,8 +98,10 @@ fn run_line<M: Memory>(core: &mut Core<M>, line: Line, cut: Option<u64>) -> Resu
     ensures counted { IfOk result (λ _. IsCounted core.new) }
     ensures ends { IfOk result (λ ending. EndsCall ending cut core.new) }
 {
-    let Line::Say { call, .. } = line;
-    run_said(core, call, cut)
+    match line {
+        Line::Say { call, .. } => run_said(core, call, cut),
+        Line::Await { .. } => unreachable!(),
+    }
 }
 
 /// Runs the lines one after the other, to the end or to the power cut.

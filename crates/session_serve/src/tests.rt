@@ -112,13 +112,15 @@ fn run_over(alloc: Global, options: &[&str], image: &[u8], script: &str) -> Resu
 fn prints_the_history_of_a_script(rt: HostRuntime) -> Result<(), Fail> {
     let refusals = "s1 insert t 7\ns1 begin\ns1 begin\ns1 get t 0\ns1 commit\n";
     let refused = "s1 1 notxn\ns1 2 began 1 at 0\ns1 3 alreadyopen\ns1 4 norow\ns1 5 readonly\n";
-    let bad = Status::BadScript { line: 2, rule: 0 };
+    let not_built = Status::BadScript { line: 2, rule: 0 };
+    let no_statement = Status::BadScript { line: 2, rule: 5 };
     let cases = [
         (SCRIPT, Status::Done, HISTORY),
         (refusals, Status::Done, refused),
         ("", Status::Done, ""),
-        ("s1 begin\ns1 abort\n", bad, ""),
-        ("s1 begin\ns1 commit", bad, ""),
+        ("s1 begin", Status::Done, "s1 1 began 1 at 0\n"),
+        ("s1 begin\ns1 abort\n", not_built, ""),
+        ("s1 begin\ns1 jump\n", no_statement, ""),
     ];
     let image = formatted(rt.alloc())?;
     for (script, status, text) in cases {

@@ -1,11 +1,10 @@
 ghost use Rattle.std.specs.Prelude.{◌≡◌, ◌&&◌, not, nat_eq, codes, map, string_bytes, Some, None, IfOk, option_map, option_and_then};
-ghost use Rattle.script_text.specs.Script.{after_words};
 ghost use Rattle.session_serve.specs.declared.words.WordsError.TheVariants as error;
-ghost use Rattle.session_serve.specs.Words.{HasSegments, Reads, ReadsJob, both_options, command_of, format_command, is_path, job_in, job_of, keep_of, one_option, option_number, script_command, script_job, script_over, word_of};
+ghost use Rattle.session_serve.specs.Words.{after_words, HasSegments, Reads, ReadsJob, both_options, command_of, format_command, is_path, job_in, job_of, keep_of, one_option, option_number, script_command, script_job, script_over, word_of};
 
 use mv_model::{NoMemory, Text};
 use pm_model::Keep;
-use script_text::read_number;
+use sf_value::read_number;
 use std::alloc::Global;
 use thiserror::Error;
 

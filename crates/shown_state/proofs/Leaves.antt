@@ -30,7 +30,7 @@ any_equal (x ∷ xs) y is =
     ⊎_elim (λ here. subst C (sym (eqb-true y x here)) (Contains-here x xs)) (λ there. Contains-there x y xs (any_equal xs y there)) (or_cases (eqb y x) (list_any (eqb y) xs) is)
 
 -- different numbers below one are at most so many
-few_below : (xs : List ℕ) (n : ℕ) → Differ xs → ((y : ℕ) → Contains xs y → y < n) → length xs ≤ n
+pub few_below : (xs : List ℕ) (n : ℕ) → Differ xs → ((y : ℕ) → Contains xs y → y < n) → length xs ≤ n
 few_below xs n differ below = length-le_from_distinct_below xs n (distinct_from xs differ) (λ y any. below y (any_equal xs y any))
 
 -- leaves that were reached: different places of the image

@@ -24,6 +24,7 @@ use Rattle.pm_model.proofs.Members.{below-Contains, Contains-below, Contains-her
 use Rattle.shown_state.specs.LogicalState.{logical_state}
 use Rattle.pm_model.specs.Plans.{Part, store}
 use Rattle.pm_model.specs.Needed.{is_there, is_stored_later, needed_stores, needed_parts, Mending}
+use Rattle.shown_state.proofs.Sounds.{sound_logs}
 use Rattle.shown_state.specs.Mending.{lane_mending, at_column, split_parts, split_mending, free_table, slot_mending, free_text, text_mending, last_mending, undo_mending, close_mending, clear_mending, mendings, mend, reached_by_opening}
 use Rattle.shown_state.specs.OpeningLaws.{FormattedIsRecoverable, FormattedShowsNothing, SoundIsRecoverable, SoundIsRecovered}
 use Rattle.shown_state.proofs.FormattedImage.{formatted_is_sound}
@@ -224,7 +225,7 @@ pub sound_is_recoverable : SoundIsRecoverable
 sound_is_recoverable words sound =
     let same = sound_is_recovered words sound in
     let S : List ℕ → Type 0 = λ w. IsSound w in
-    record { entry = sound.entry; sound = subst S (sym same) sound; shown = ap logical_state same; apart = sound_apart words sound }
+    record { entry = sound.entry; sound = subst S (sym same) sound; shown = ap logical_state same; apart = sound_apart words sound; logs = sound_logs words sound }
 
 pub formatted_is_recoverable : FormattedIsRecoverable
 formatted_is_recoverable segments some = sound_is_recoverable (fresh_words segments) (formatted_is_sound segments some)

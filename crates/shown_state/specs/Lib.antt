@@ -1,8 +1,14 @@
 pub mod CommitLaws
+pub mod Fits
 pub mod ImageLaws
 pub mod LaneRules
 pub mod LogicalState
+pub mod Logs
 pub mod Mending
 pub mod OpeningLaws
+pub mod OpeningParts
 pub mod Packed
+pub mod ReadLaws
+pub mod Reads
 pub mod Recoverable
+pub mod StepLaws

@@ -1,6 +1,8 @@
 // What the definitions of an image's words have to do with one another, and what opening leaves as it is.
 ghost use Rattle.shown_state.specs.ImageLaws.{FormattedIsSound, PointersNameTheirPlace, SoundHasOwners, SoundIsApart, StoredLeavesAreWhole, WalksAreWhole};
+ghost use Rattle.shown_state.specs.StepLaws.{EndIsSound, PartsRecover, SoundFits, StepsKeepCuts, StepsMakeOpening, StepsRecover};
 ghost use Rattle.shown_state.specs.OpeningLaws.{FormattedIsRecoverable, FormattedShowsNothing, SoundIsRecoverable, SoundIsRecovered};
+ghost use Rattle.shown_state.specs.ReadLaws.{ChangesDecide, NextChunksAreUnread, OtherBlocksAreUnread, ReadsDecide, ReadsFit, ReadsKeepOff, ReadsStand, TreeDecides, TreesDecide, UnfinishedAreUnread, UnreadMayDiffer, ValuesDecide};
 
 /// A formatted image is sound.
 pub fn formatted_law()
@@ -26,4 +28,34 @@ pub fn opening_law()
     ensures sound { SoundIsRecovered }
     ensures recoverable { SoundIsRecoverable }
     ensures formatted_recoverable { FormattedIsRecoverable }
+{}
+
+/// A law for proofs: what the eight steps of opening keep, opening keeps, also where a power cut comes in it; what fits
+/// together and has nothing left to mend is sound, so what fits is recoverable; and a sound image fits.
+pub fn fits_law()
+    ensures opening { StepsMakeOpening }
+    ensures words { PartsRecover }
+    ensures cuts { StepsKeepCuts }
+    ensures end { EndIsSound }
+    ensures recovers { StepsRecover }
+    ensures sound { SoundFits }
+{}
+
+/// A law for proofs: whatever stands in words that no structure reads, what is read of an image that fits is the same, and so
+/// are the checks of the rules on it. What of this holds where only some of those words are the same; and where words differ
+/// that are read for what they own alone, all others are the same. No word is read that is a lane's, a block's mark, or an
+/// unfinished slot.
+pub fn reads_law()
+    ensures reads { ReadsDecide }
+    ensures values { ValuesDecide }
+    ensures trees { TreesDecide }
+    ensures one_tree { TreeDecides }
+    ensures changes { ChangesDecide }
+    ensures fit { ReadsFit }
+    ensures stand { ReadsStand }
+    ensures keep_off { ReadsKeepOff }
+    ensures unfinished { UnfinishedAreUnread }
+    ensures unread { UnreadMayDiffer }
+    ensures others { OtherBlocksAreUnread }
+    ensures next_chunks { NextChunksAreUnread }
 {}

@@ -1,0 +1,8 @@
+use Rattle.shown_state.proofs.Composed.{parts_recover, steps_make_opening, steps_keep_cuts}
+use Rattle.shown_state.proofs.Ends.{end_is_sound}
+use Rattle.shown_state.proofs.Recovering.{steps_recover}
+use Rattle.shown_state.proofs.Sounds.{sound_fits}
+use Rattle.shown_state.proofs.laws.fits_law.Goals as goal
+
+pub returns : goal.returns
+returns c = record { opening = steps_make_opening; words = parts_recover; cuts = steps_keep_cuts; end = end_is_sound; recovers = steps_recover; sound = sound_fits }
