@@ -3,13 +3,13 @@ use Rattle.std.proofs.Common.{◌≡◌, ◌≢◌, inl, inr, ⊎_elim, ℕ, ◌
 use Rattle.std.proofs.lemmas.Bool.{cases_eq, cond-false, or_from, ne_eqb, le-ltb}
 use Rattle.pm_model.specs.declared.action.Action.{Action}
 use Rattle.pm_model.specs.Device.{Device, IsClean}
-use Rattle.pm_model.specs.Fixed.{lane_op_at}
-use Rattle.pm_model.specs.Pointer.{pointer_word}
-use Rattle.pm_model.specs.Places.{place_in}
+use Rattle.image_layout.specs.Fixed.{lane_op_at}
+use Rattle.image_layout.specs.Pointer.{pointer_word}
+use Rattle.image_layout.specs.Places.{place_in}
 use Rattle.pm_model.specs.Plans.{finished, at_rest}
-use Rattle.pm_model.specs.Blocks.{Block, live_blocks}
-use Rattle.pm_model.specs.Fresh.{is_reserved_descriptor, fresh_words}
-use Rattle.pm_model.proofs.FreshImage.{get_or-fresh_words}
+use Rattle.image_layout.specs.Blocks.{Block, live_blocks}
+use Rattle.image_layout.specs.Fresh.{is_reserved_descriptor, fresh_words}
+use Rattle.image_layout.proofs.FreshImage.{get_or-fresh_words}
 use Rattle.heap_palloc.specs.Lane.{is_big_place}
 use Rattle.heap_palloc.specs.Law.{IsElsewhere, Shows}
 use Rattle.heap_palloc.specs.Index.{HeapIndex, IsIndexOf}

@@ -1,8 +1,8 @@
 -- What the measured program keeps from turn to turn.
 use Rattle.std.specs.Prelude.{◌≡◌, ◌≢◌, ℕ, ◌<◌, ◌≤◌, slice_index}
 use Rattle.pm_model.specs.Device.{Device, IsClean}
-use Rattle.pm_model.specs.Fixed.{lane_op_at}
-use Rattle.pm_model.specs.Blocks.{Block}
+use Rattle.image_layout.specs.Fixed.{lane_op_at}
+use Rattle.image_layout.specs.Blocks.{Block}
 use Rattle.heap_palloc.specs.Index.{HeapIndex}
 use Rattle.heap_palloc.specs.Calls.{IsSettled, OwnsBlock}
 

@@ -2,10 +2,10 @@
 use Rattle.std.proofs.Common.{◌≡◌, ⊎_elim, ℕ, ◌+◌, ◌-◌, ◌*◌, ◌%◌, ◌<◌, ◌≤◌, true, false, not, List, [], ◌∷◌, ◌++◌, get_or, map, refl, sym, ◌∙◌, ap, subst, arith}
 use Rattle.std.specs.Prelude.{Contains}
 use Rattle.std.proofs.lemmas.Bool.{both_ways, and_from, not_from_false, cond-true, cond-false}
-use Rattle.pm_model.specs.Pointer.{pointer_word}
-use Rattle.pm_model.specs.Places.{page_of, page_at, page_count, place_in}
-use Rattle.pm_model.specs.Blocks.{Block, slot_at, slot_in, descriptor_of, says_small, is_inside, class_of, live_blocks}
-use Rattle.pm_model.proofs.Heap.{small_class, big_pages, page_of_block, IsSmallOf, IsBigOf}
+use Rattle.image_layout.specs.Pointer.{pointer_word}
+use Rattle.image_layout.specs.Places.{page_of, page_at, page_count, place_in}
+use Rattle.image_layout.specs.Blocks.{Block, slot_at, slot_in, descriptor_of, says_small, is_inside, class_of, live_blocks}
+use Rattle.image_layout.proofs.Heap.{small_class, big_pages, page_of_block, IsSmallOf, IsBigOf}
 use Rattle.heap_palloc.specs.Choice.{Choice, in_page, on_new_page, in_run, choice_block, choice_page, choice_pages, MayMake, Freed, of_slot, of_pages, slot_named, pages_named, freed_named, freed_block, freed_page, freed_pages, MayRelease}
 use Rattle.heap_palloc.specs.Lane.{is_big_place}
 use Rattle.heap_palloc.specs.Law.{IsHeapPage, IsIdle, Slot, Pages}
@@ -14,7 +14,7 @@ use Rattle.heap_palloc.proofs.BigPlans.{big_place}
 use Rattle.heap_palloc.proofs.Slots.{slot_place, mark-slot}
 use Rattle.heap_palloc.proofs.Stages.{place_in-pointer}
 use Rattle.std.proofs.lemmas.List.Elements.{Contains-append_right}
-use Rattle.pm_model.proofs.Members.{Contains-here, map-Contains}
+use Rattle.image_layout.proofs.Members.{Contains-here, map-Contains}
 use Rattle.heap_palloc.specs.Choice.{freed_allocation}
 use Rattle.shown_state.proofs.OneOwner.{Differ, first_of}
 

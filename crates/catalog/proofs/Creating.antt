@@ -3,11 +3,11 @@ use Rattle.std.proofs.Common.{◌≡◌, ◌≢◌, ◌⊎◌, inl, inr, ⊎_eli
 use Rattle.std.specs.Prelude.{Contains}
 use Rattle.std.proofs.lemmas.Bool.{cases_lt}
 use Rattle.std.proofs.lemmas.List.{get_or-set_other, length-set}
-use Rattle.pm_model.specs.Fixed.{descriptor_at, table_count_at}
-use Rattle.pm_model.specs.Places.{page_of, page_at}
+use Rattle.image_layout.specs.Fixed.{descriptor_at, table_count_at}
+use Rattle.image_layout.specs.Places.{page_of, page_at}
 use Rattle.pm_model.specs.Plans.{words_after, finished, IsPlan}
-use Rattle.pm_model.specs.Blocks.{is_small_page, live_blocks}
-use Rattle.pm_model.specs.Tables.{table_count}
+use Rattle.image_layout.specs.Blocks.{is_small_page, live_blocks}
+use Rattle.image_layout.specs.Tables.{table_count}
 use Rattle.pm_model.proofs.Alone.{length-words_after}
 use Rattle.pm_model.proofs.Cuts.{store_part, finished-append, length-finished, plan-append}
 use Rattle.pm_model.proofs.PlanLaw.{words_after-kept}

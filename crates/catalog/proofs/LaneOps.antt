@@ -3,8 +3,8 @@ use Rattle.std.proofs.Common.{◌≡◌, ◌+◌, ℕ, ◌<◌, ◌≤◌, List,
 use Rattle.std.specs.Prelude.{filter}
 use Rattle.std.proofs.Common.{eqb}
 use Rattle.std.specs.List.{range_with_len}
-use Rattle.pm_model.specs.Fixed.{descriptor_at, lane_op_at}
-use Rattle.pm_model.specs.Places.{page_of, page_at}
+use Rattle.image_layout.specs.Fixed.{descriptor_at, lane_op_at}
+use Rattle.image_layout.specs.Places.{page_of, page_at}
 use Rattle.pm_model.specs.Plans.{Part, EachCut, finished, store, unless_empty}
 use Rattle.pm_model.specs.Needed.{Stores, StoresOfParts, after_mending}
 use Rattle.pm_model.proofs.NeededStores.{cuts-written, parts-append}

@@ -5,7 +5,7 @@ use Rattle.std.proofs.lemmas.List.{length-append}
 use Rattle.std.proofs.lemmas.Grind.{flat_map-append}
 use Rattle.pm_model.specs.declared.action.Action.{Action}
 use Rattle.pm_model.specs.Plans.{plan_of, part_actions}
-use Rattle.pm_model.specs.Blocks.{slot_words, class_for}
+use Rattle.image_layout.specs.Blocks.{slot_words, class_for}
 use Rattle.heap_big.specs.declared.run.Run.{Run}
 use Rattle.heap_palloc.specs.Parts.{allocation_parts, new_page_parts}
 use Rattle.heap_palloc.specs.Law.{pages_allocation}

@@ -7,8 +7,8 @@ use Rattle.std.proofs.lemmas.List.FromFn.{length-range_with_len}
 use Rattle.mv_model.specs.declared.shape.Kind.{Kind}
 use Rattle.mv_model.specs.declared.shape.Kind.TheVariants as kind
 use Rattle.mv_model.specs.declared.shape.Column.{Column}
-use Rattle.pm_model.specs.Places.{below}
-use Rattle.pm_model.proofs.Ranges.{below_more}
+use Rattle.image_layout.specs.Places.{below}
+use Rattle.image_layout.proofs.Ranges.{below_more}
 use Rattle.shown_state.specs.LogicalState.{kind_of}
 
 map_last : {X Y : Type 0} (f : X → Y) (xs : List X) (x : X) → map f (xs ++ x ∷ []) ≡ map f xs ++ f x ∷ []

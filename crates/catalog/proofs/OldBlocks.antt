@@ -2,13 +2,13 @@
 use Rattle.std.proofs.Common.{◌≡◌, ◌≢◌, ◌⊎◌, inl, inr, ⊎_elim, ℕ, ◌+◌, ◌<◌, ◌≤◌, true, not, leb, List, length, ap, subst, arith}
 use Rattle.std.specs.Prelude.{Contains}
 use Rattle.std.proofs.lemmas.Bool.{both_ways, and_from, not_from_false, le-leb}
-use Rattle.pm_model.specs.Fixed.{table_slot_at}
-use Rattle.pm_model.specs.Places.{page_of, page_at}
+use Rattle.image_layout.specs.Fixed.{table_slot_at}
+use Rattle.image_layout.specs.Places.{page_of, page_at}
 use Rattle.pm_model.specs.Plans.{finished}
-use Rattle.pm_model.specs.Blocks.{Block, descriptor_of, is_free_page, is_inside, is_small_page, live_blocks}
-use Rattle.pm_model.specs.Tables.{table_count}
-use Rattle.pm_model.proofs.Heap.{live_blocks_apart}
-use Rattle.pm_model.proofs.OwnersApart.{live_behind}
+use Rattle.image_layout.specs.Blocks.{Block, descriptor_of, is_free_page, is_inside, is_small_page, live_blocks}
+use Rattle.image_layout.specs.Tables.{table_count}
+use Rattle.image_layout.proofs.Heap.{live_blocks_apart}
+use Rattle.image_layout.proofs.OwnersApart.{live_behind}
 use Rattle.heap_palloc.specs.Choice.{Choice, in_page, on_new_page, in_run, choice_block, choice_page, choice_pages, choice_parts, MayMake}
 use Rattle.heap_palloc.specs.Law.{IsElsewhere}
 use Rattle.heap_palloc.proofs.Dests.{IsDestPlace, dest_place}

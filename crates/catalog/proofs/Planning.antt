@@ -7,10 +7,10 @@ use Rattle.mv_model.specs.declared.shape.Column.{Column}
 use Rattle.mv_model.specs.Shape.{is_shape, names_differ}
 use Rattle.pm_model.specs.declared.action.Action.{Action}
 use Rattle.pm_model.specs.Device.{Device, IsWhole}
-use Rattle.pm_model.specs.Fixed.{table_count_at, table_slot_at}
+use Rattle.image_layout.specs.Fixed.{table_count_at, table_slot_at}
 use Rattle.pm_model.specs.Plans.{plan_of, part_actions, one_store}
-use Rattle.pm_model.specs.Records.{table_words}
-use Rattle.pm_model.specs.Tables.{table_count}
+use Rattle.image_layout.specs.Records.{table_words}
+use Rattle.image_layout.specs.Tables.{table_count}
 use Rattle.heap_palloc.specs.Calls.{IsAllocated}
 use Rattle.heap_palloc.specs.Choice.{choice_parts}
 use Rattle.heap_palloc.specs.Index.{HeapIndex}

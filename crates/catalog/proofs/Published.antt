@@ -2,14 +2,14 @@
 use Rattle.std.proofs.Common.{◌≡◌, inl, ℕ, zero, suc, ◌+◌, ◌*◌, ◌/◌, ◌^◌, ◌%◌, ◌<◌, not, eqb, List, [], ◌∷◌, ◌++◌, map, take_while, get_or, refl, sym, ◌∙◌, ap, arith}
 use Rattle.std.specs.List.{range_with_len}
 use Rattle.mv_model.specs.declared.shape.Column.{Column}
-use Rattle.pm_model.specs.Fixed.{table_slot_at}
-use Rattle.pm_model.specs.Places.{below, packed_byte, place_in}
-use Rattle.pm_model.specs.Records.{column_at, table_name_at, table_words}
-use Rattle.pm_model.specs.Tables.{table_count, table_block, columns_of, is_text}
-use Rattle.pm_model.specs.EntryRules.{KeepsEntryRules}
-use Rattle.pm_model.specs.Owners.{OwnersAreApart}
-use Rattle.pm_model.proofs.OwnedBlocks.{table_live}
-use Rattle.pm_model.proofs.Ranges.{map_same}
+use Rattle.image_layout.specs.Fixed.{table_slot_at}
+use Rattle.image_layout.specs.Places.{below, packed_byte, place_in}
+use Rattle.image_layout.specs.Records.{column_at, table_name_at, table_words}
+use Rattle.image_layout.specs.Tables.{table_count, table_block, columns_of, is_text}
+use Rattle.image_layout.specs.EntryRules.{KeepsEntryRules}
+use Rattle.image_layout.specs.Owners.{OwnersAreApart}
+use Rattle.image_layout.proofs.OwnedBlocks.{table_live}
+use Rattle.image_layout.proofs.Ranges.{map_same}
 use Rattle.heap_palloc.specs.Choice.{choice_page, choice_pages}
 use Rattle.heap_palloc.specs.Law.{IsElsewhere}
 use Rattle.shown_state.specs.LogicalState.{name_at, column_of, kind_of}

@@ -11,9 +11,9 @@ use Rattle.mv_model.specs.declared.shape.Column.{Column}
 use Rattle.mv_model.specs.declared.shape.Kind.{Kind}
 use Rattle.mv_model.specs.declared.shape.Kind.TheVariants.{Int, Text}
 use Rattle.mv_model.specs.Name.{is_name, is_name_byte, begins_with_lowercase}
-use Rattle.pm_model.specs.Places.{below, packed_byte}
-use Rattle.pm_model.specs.Records.{column_at, columns_at, table_name_at}
-use Rattle.pm_model.specs.Tables.{columns_of, is_text}
+use Rattle.image_layout.specs.Places.{below, packed_byte}
+use Rattle.image_layout.specs.Records.{column_at, columns_at, table_name_at}
+use Rattle.image_layout.specs.Tables.{columns_of, is_text}
 use Rattle.shown_state.specs.LogicalState.{name_at, column_of, kind_of}
 use Rattle.shown_state.specs.Packed.{packed_word}
 use Rattle.catalog.specs.Creation.{kind_word, column_record, head_record, table_record}

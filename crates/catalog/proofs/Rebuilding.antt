@@ -14,18 +14,18 @@ use Rattle.std.proofs.lemmas.Nat.{from_le_bytes-to_le_bytes_8}
 use Rattle.mv_model.specs.Name.{is_name, begins_with_lowercase, same_name as equal_names}
 use Rattle.mv_model.specs.Shape.{lacks_column, names_differ}
 use Rattle.pm_model.specs.Device.{AreWords}
-use Rattle.pm_model.specs.Fixed.{table_slot_at}
-use Rattle.pm_model.specs.Places.{below, packed_byte}
-use Rattle.pm_model.specs.Records.{column_at, column_name_at, columns_at, table_name_at}
-use Rattle.pm_model.specs.Tables.{table_count, table_block, table_blocks, columns_of}
-use Rattle.pm_model.specs.Checks.{Check, check}
-use Rattle.pm_model.specs.EntryRules.{is_letter, is_name_byte, is_padded_name_byte, kind_check, name_checks, name_rule}
-use Rattle.pm_model.specs.SoundRules.{IsSound, same_name, name_place_checks, table_name_checks, distinct_name_rule}
-use Rattle.pm_model.proofs.Heap.{Holds}
-use Rattle.pm_model.proofs.Members.{below-Contains, Contains-here, Contains-there, Contains-cons, Contains-nil, map-Contains}
-use Rattle.pm_model.proofs.OwnedBlocks.{keeps_one}
-use Rattle.pm_model.proofs.OwnersApart.{all_from}
-use Rattle.pm_model.proofs.TableSlots.{one_table, table_in_image}
+use Rattle.image_layout.specs.Fixed.{table_slot_at}
+use Rattle.image_layout.specs.Places.{below, packed_byte}
+use Rattle.image_layout.specs.Records.{column_at, column_name_at, columns_at, table_name_at}
+use Rattle.image_layout.specs.Tables.{table_count, table_block, table_blocks, columns_of}
+use Rattle.image_layout.specs.Checks.{Check, check}
+use Rattle.image_layout.specs.EntryRules.{is_letter, is_name_byte, is_padded_name_byte, kind_check, name_checks, name_rule}
+use Rattle.image_layout.specs.SoundRules.{IsSound, same_name, name_place_checks, table_name_checks, distinct_name_rule}
+use Rattle.image_layout.proofs.Heap.{Holds}
+use Rattle.image_layout.proofs.Members.{below-Contains, Contains-here, Contains-there, Contains-cons, Contains-nil, map-Contains}
+use Rattle.image_layout.proofs.OwnedBlocks.{keeps_one}
+use Rattle.image_layout.proofs.OwnersApart.{all_from}
+use Rattle.image_layout.proofs.TableSlots.{one_table, table_in_image}
 use Rattle.shown_state.specs.LogicalState.{name_at, column_of}
 use Rattle.catalog.specs.Entries.{KeepsTableRules, ShowsTable}
 use Rattle.catalog.proofs.Lists.{mapped_count}

@@ -7,17 +7,17 @@ use Rattle.std.proofs.lemmas.Bool.{and_parts, both_ways, cases_Bool, eqb-true, e
 use Rattle.std.proofs.lemmas.List.Elements.{All-head, All-tail, Contains-append_cases}
 use Rattle.mv_model.specs.declared.shape.Column.{Column}
 use Rattle.mv_model.specs.State.{Table}
-use Rattle.pm_model.specs.Fixed.{entry_at, first_segment_at, ready_at, state_at, table_slot_at}
-use Rattle.pm_model.specs.Places.{below, place_in}
-use Rattle.pm_model.specs.Records.{high_at, segment_entry_at, table_name_at}
-use Rattle.pm_model.specs.Checks.{check}
-use Rattle.pm_model.specs.EntryRules.{KeepsEntryRules, entry_checks, entries_rule, is_entry, stamped_capacity}
-use Rattle.pm_model.specs.Objects.{is_open, ready_count, ready_segments, segment_pointer_at, segment_of, entry_places, entries, entry_kind, entry_table, entry_row}
-use Rattle.pm_model.specs.Owners.{OwnersAreApart}
-use Rattle.pm_model.specs.Tables.{table_count, table_block, columns_of}
-use Rattle.pm_model.proofs.Heap.{Holds}
-use Rattle.pm_model.proofs.Members.{Contains-below, Contains-here, Contains-there, Contains-cons, Contains-nil, Contains-filter, Contains-flat_map, Contains-map}
-use Rattle.pm_model.proofs.OwnedBlocks.{keeps_one, one_object, ready_named, segment_live}
+use Rattle.image_layout.specs.Fixed.{entry_at, first_segment_at, ready_at, state_at, table_slot_at}
+use Rattle.image_layout.specs.Places.{below, place_in}
+use Rattle.image_layout.specs.Records.{high_at, segment_entry_at, table_name_at}
+use Rattle.image_layout.specs.Checks.{check}
+use Rattle.image_layout.specs.EntryRules.{KeepsEntryRules, entry_checks, entries_rule, is_entry, stamped_capacity}
+use Rattle.image_layout.specs.Objects.{is_open, ready_count, ready_segments, segment_pointer_at, segment_of, entry_places, entries, entry_kind, entry_table, entry_row}
+use Rattle.image_layout.specs.Owners.{OwnersAreApart}
+use Rattle.image_layout.specs.Tables.{table_count, table_block, columns_of}
+use Rattle.image_layout.proofs.Heap.{Holds}
+use Rattle.image_layout.proofs.Members.{Contains-below, Contains-here, Contains-there, Contains-cons, Contains-nil, Contains-filter, Contains-flat_map, Contains-map}
+use Rattle.image_layout.proofs.OwnedBlocks.{keeps_one, one_object, ready_named, segment_live}
 use Rattle.heap_palloc.specs.Choice.{choice_page, choice_pages}
 use Rattle.heap_palloc.specs.Law.{IsElsewhere}
 use Rattle.shown_state.specs.LogicalState.{logical_state, name_at, column_of, table_of, next_row_of, open_bound, created_rows, row_bound}

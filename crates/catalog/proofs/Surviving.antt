@@ -6,12 +6,12 @@ use Rattle.std.proofs.lemmas.Bool.{cases_eq, cases_lt, cond-true, cond-false, lt
 use Rattle.std.proofs.lemmas.List.{get_or-set_same, get_or-set_other, length-set}
 use Rattle.pm_model.specs.declared.action.Action.{Action}
 use Rattle.pm_model.specs.Device.{Device, IsBetween}
-use Rattle.pm_model.specs.Fixed.{descriptor_at, lane_op_at, table_count_at, table_slot_at}
-use Rattle.pm_model.specs.Pointer.{pointer_word}
-use Rattle.pm_model.specs.Places.{page_of, page_at}
+use Rattle.image_layout.specs.Fixed.{descriptor_at, lane_op_at, table_count_at, table_slot_at}
+use Rattle.image_layout.specs.Pointer.{pointer_word}
+use Rattle.image_layout.specs.Places.{page_of, page_at}
 use Rattle.pm_model.specs.Plans.{Part, EachCut, IsPlan, finished, footprint, words_after, store, unless_empty, Play, IsPlaying, IsCrashImageWithin, IsTakenBack}
-use Rattle.pm_model.specs.Blocks.{Block, descriptor_of, live_blocks}
-use Rattle.pm_model.specs.Tables.{table_count}
+use Rattle.image_layout.specs.Blocks.{Block, descriptor_of, live_blocks}
+use Rattle.image_layout.specs.Tables.{table_count}
 use Rattle.pm_model.proofs.Cuts.{between-kept, between-end, cut-one_store, each_cut-append, each_cut-end, each_cut-map, each_cut-unless_empty, finished-unless_empty}
 use Rattle.pm_model.proofs.PlanLaw.{plan_survives_parts, plan_ended_parts}
 use Rattle.heap_palloc.specs.Choice.{Choice, in_page, on_new_page, in_run, choice_allocation, choice_block, choice_page, choice_pages, choice_parts, IsThrough, MayMake, Freed, of_slot, of_pages, freed_allocation, freed_block, freed_page, freed_pages, freed_parts, freed_named}
@@ -32,7 +32,7 @@ use Rattle.heap_palloc.proofs.Slots.{descriptor_outside-lane}
 use Rattle.heap_palloc.proofs.Stages.{mended-idle, pointer-some}
 use Rattle.shown_state.specs.Mending.{fill_from, free_table, free_block, slot_mending}
 use Rattle.shown_state.proofs.OneOwner.{blocks_differ}
-use Rattle.pm_model.specs.Owners.{next_table_slots}
+use Rattle.image_layout.specs.Owners.{next_table_slots}
 use Rattle.catalog.specs.Creation.{Creation, new_block, table_record, publishing_parts, creation_parts}
 use Rattle.catalog.specs.Shown.{mended, IsUntouched, IsUncreated, IsCreated, MayCreateOn}
 use Rattle.catalog.proofs.Blocks.{IsChoiceBlock, choice_is_block, IsFreeable, IsFreeing, freeing_is, taken_back}

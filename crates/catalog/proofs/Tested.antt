@@ -4,7 +4,7 @@ use Rattle.std.specs.Prelude.{Some, IsSome}
 use Rattle.mv_model.specs.declared.shape.Column.{Column}
 use Rattle.pm_model.specs.declared.action.Action.{Action}
 use Rattle.pm_model.specs.Device.{Device, IsClean, IsWhole}
-use Rattle.pm_model.specs.Fresh.{fresh_words}
+use Rattle.image_layout.specs.Fresh.{fresh_words}
 use Rattle.pm_model.specs.Plans.{Part, IsPlan, finished, plan_of}
 use Rattle.heap_palloc.specs.Calls.{IsSettled, KeepsHeapRules}
 use Rattle.heap_palloc.specs.Index.{HeapIndex, IsIndexOf}

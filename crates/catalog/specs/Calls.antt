@@ -2,10 +2,10 @@
 use Rattle.std.specs.Prelude.{◌≡◌, ℕ, ◌<◌, ◌≤◌, List, length, slice_index}
 use Rattle.mv_model.specs.declared.shape.Column.{Column}
 use Rattle.pm_model.specs.declared.action.Action.{Action}
-use Rattle.pm_model.specs.Fixed.{lane_op_at, table_slot_at}
+use Rattle.image_layout.specs.Fixed.{lane_op_at, table_slot_at}
 use Rattle.pm_model.specs.Plans.{plan_of, finished}
-use Rattle.pm_model.specs.Records.{table_words}
-use Rattle.pm_model.specs.Tables.{table_count}
+use Rattle.image_layout.specs.Records.{table_words}
+use Rattle.image_layout.specs.Tables.{table_count}
 use Rattle.heap_palloc.specs.declared.error.AllocError.{AllocError}
 use Rattle.heap_palloc.specs.declared.error.AllocError.TheVariants.{Full as HeapFull, NoMemory as HeapNoMemory}
 use Rattle.heap_palloc.specs.Calls.{KeepsHeapRules}

@@ -5,10 +5,10 @@ use Rattle.std.specs.List.{flat_map}
 use Rattle.mv_model.specs.declared.shape.Column.{Column}
 use Rattle.mv_model.specs.declared.shape.Kind.{Kind}
 use Rattle.mv_model.specs.declared.shape.Kind.TheVariants.{Int, Text}
-use Rattle.pm_model.specs.Fixed.{table_count_at, table_slot_at}
+use Rattle.image_layout.specs.Fixed.{table_count_at, table_slot_at}
 use Rattle.pm_model.specs.Plans.{Part, one_store}
-use Rattle.pm_model.specs.Records.{table_words}
-use Rattle.pm_model.specs.Tables.{table_count}
+use Rattle.image_layout.specs.Records.{table_words}
+use Rattle.image_layout.specs.Tables.{table_count}
 use Rattle.heap_palloc.specs.Choice.{Choice, choice_block, choice_parts, IsThrough, MayMake}
 use Rattle.shown_state.specs.Mending.{fill_from}
 use Rattle.shown_state.specs.Packed.{packed_words}

@@ -4,13 +4,13 @@ use Rattle.std.specs.List.{position_from}
 use Rattle.mv_model.specs.declared.shape.Column.{Column}
 use Rattle.mv_model.specs.Name.{is_name, same_name}
 use Rattle.mv_model.specs.Shape.{is_shape}
-use Rattle.pm_model.specs.Fixed.{table_slot_at}
-use Rattle.pm_model.specs.Places.{below, is_pointer}
-use Rattle.pm_model.specs.Records.{column_at, column_name_at, columns_at, table_name_at, table_words}
-use Rattle.pm_model.specs.Tables.{table_count, table_block, columns_of}
-use Rattle.pm_model.specs.Checks.{Keeps}
-use Rattle.pm_model.specs.EntryRules.{table_count_rule, table_slot_rule, name_rule}
-use Rattle.pm_model.specs.SoundRules.{distinct_name_rule}
+use Rattle.image_layout.specs.Fixed.{table_slot_at}
+use Rattle.image_layout.specs.Places.{below, is_pointer}
+use Rattle.image_layout.specs.Records.{column_at, column_name_at, columns_at, table_name_at, table_words}
+use Rattle.image_layout.specs.Tables.{table_count, table_block, columns_of}
+use Rattle.image_layout.specs.Checks.{Keeps}
+use Rattle.image_layout.specs.EntryRules.{table_count_rule, table_slot_rule, name_rule}
+use Rattle.image_layout.specs.SoundRules.{distinct_name_rule}
 use Rattle.shown_state.specs.LogicalState.{name_at, column_of}
 
 -- a table: its name, its columns, and the place of its block

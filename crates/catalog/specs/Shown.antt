@@ -1,11 +1,11 @@
 -- What the words of an image show of a creation, once the lane and the table slot at the table count are mended.
 use Rattle.std.specs.Prelude.{◌≡◌, ◌≢◌, ◌⊎◌, ℕ, ◌+◌, ◌%◌, ◌<◌, ◌≤◌, List, length, slice_index}
 use Rattle.mv_model.specs.State.{Table}
-use Rattle.pm_model.specs.Fixed.{lane_op_at, table_count_at, table_slot_at}
-use Rattle.pm_model.specs.Pointer.{pointer_word}
+use Rattle.image_layout.specs.Fixed.{lane_op_at, table_count_at, table_slot_at}
+use Rattle.image_layout.specs.Pointer.{pointer_word}
 use Rattle.pm_model.specs.Plans.{finished}
-use Rattle.pm_model.specs.Blocks.{live_blocks}
-use Rattle.pm_model.specs.Tables.{table_count}
+use Rattle.image_layout.specs.Blocks.{live_blocks}
+use Rattle.image_layout.specs.Tables.{table_count}
 use Rattle.pm_model.specs.Needed.{after_mending}
 use Rattle.heap_palloc.specs.Calls.{KeepsHeapRules}
 use Rattle.heap_palloc.specs.Choice.{choice_page, choice_pages}

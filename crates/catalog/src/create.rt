@@ -1,7 +1,7 @@
 // Planning the creation of a table.
 ghost use Rattle.std.specs.Prelude.{◌≡◌, ◌⊎◌, ℕ, ◌+◌, ◌*◌, ◌<◌, ◌≤◌, ◌++◌, Err, IfOk, IfErr, OnErr, IsNone, IsSome, Some, length};
-ghost use Rattle.pm_model.specs.Blocks.{longest_free_run};
-ghost use Rattle.pm_model.specs.Records.{table_words as words_of_table};
+ghost use Rattle.image_layout.specs.Blocks.{longest_free_run};
+ghost use Rattle.image_layout.specs.Records.{table_words as words_of_table};
 ghost use Rattle.heap_palloc.specs.Choice.{needed_pages};
 ghost use Rattle.heap_palloc.specs.Calls.{IsFull};
 ghost use Rattle.catalog.specs.declared.error.CreateError.TheVariants.{TableExists, TooManyTables, Full, NoMemory as OutOfMemory};

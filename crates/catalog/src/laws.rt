@@ -1,11 +1,11 @@
 // What the creation of a table keeps through each power cut, whatever is played beside it.
 ghost use Rattle.std.specs.Prelude.{◌≡◌, ◌⊎◌, ℕ, [], ◌∷◌, ◌++◌, List, IsTrue, length};
 ghost use Rattle.pm_model.specs.declared.action.Action.{Action};
-ghost use Rattle.pm_model.specs.Blocks.{live_blocks};
+ghost use Rattle.image_layout.specs.Blocks.{live_blocks};
 ghost use Rattle.pm_model.specs.Device.{Device, IsClean};
 ghost use Rattle.pm_model.specs.Plans.{Play, IsPlaying, IsPlan, IsCrashImageWithin, IsTakenBack, finished, footprint, plan_of};
-ghost use Rattle.pm_model.specs.EntryRules.{KeepsEntryRules};
-ghost use Rattle.pm_model.specs.Owners.{OwnersAreApart};
+ghost use Rattle.image_layout.specs.EntryRules.{KeepsEntryRules};
+ghost use Rattle.image_layout.specs.Owners.{OwnersAreApart};
 ghost use Rattle.heap_palloc.specs.Choice.{choice_block};
 ghost use Rattle.heap_palloc.specs.Shown.{GainsOne};
 ghost use Rattle.shown_state.specs.LogicalState.{logical_state};

@@ -2,9 +2,9 @@
 ghost use Rattle.std.specs.Prelude.{◌≡◌, ◌+◌, ◌*◌, ◌/◌, ◌%◌, ◌<◌, ◌≤◌, ℕ, IsTrue, IfOk, None, length, map, not, ◌==◌, slice_index, take_while};
 ghost use Rattle.mv_model.specs.Name.{is_name};
 ghost use Rattle.mv_model.specs.Shape.{is_shape};
-ghost use Rattle.pm_model.specs.Places.{below, packed_byte};
-ghost use Rattle.pm_model.specs.Records.{column_at, column_name_at, columns_at, table_words};
-ghost use Rattle.pm_model.specs.Tables.{columns_of, table_count as count_of_tables};
+ghost use Rattle.image_layout.specs.Places.{below, packed_byte};
+ghost use Rattle.image_layout.specs.Records.{column_at, column_name_at, columns_at, table_words};
+ghost use Rattle.image_layout.specs.Tables.{columns_of, table_count as count_of_tables};
 ghost use Rattle.shown_state.specs.LogicalState.{column_of, name_at};
 ghost use Rattle.catalog.specs.Entries.{KeepsTableRules, ShowsTable, published_table, published_tables};
 

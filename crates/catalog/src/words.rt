@@ -2,7 +2,7 @@
 ghost use Rattle.std.specs.Prelude.{◌≡◌, ◌+◌, ◌*◌, ◌<◌, ◌≤◌, ◌++◌, [], ◌∷◌, IsTrue, length, replicate};
 ghost use Rattle.mv_model.specs.Name.{is_name};
 ghost use Rattle.pm_model.specs.Plans.{part_actions, plan_of};
-ghost use Rattle.pm_model.specs.Records.{table_words as words_of_table};
+ghost use Rattle.image_layout.specs.Records.{table_words as words_of_table};
 ghost use Rattle.shown_state.specs.Mending.{fill_from};
 ghost use Rattle.shown_state.specs.Packed.{packed_word, packed_words};
 ghost use Rattle.catalog.specs.Creation.{kind_word as word_of_kind, column_record, head_record, table_record};

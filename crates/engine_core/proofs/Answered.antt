@@ -14,7 +14,7 @@ use Rattle.mv_model.specs.declared.reply.Reply.TheVariants as reply
 use Rattle.mv_model.specs.declared.limits.TheConstants.{MAX_COMMITS}
 use Rattle.mv_model.specs.History.{IsAllowed}
 use Rattle.mv_model.proofs.Unchanged.{refusals_change_nothing_lem}
-use Rattle.pm_model.specs.Fixed.{last_at}
+use Rattle.image_layout.specs.Fixed.{last_at}
 use Rattle.engine_core.specs.Stage.{high_at}
 use Rattle.engine_core.specs.StageRules.{IsStage}
 use Rattle.engine_core.specs.Served.{insert_of, is_served, table_name}

@@ -5,12 +5,12 @@ use Rattle.std.specs.List.{flat_map, range_with_len}
 use Rattle.std.proofs.lemmas.Bool.{cases_Bool, cond-true, cond-false, eq-eqb, ne_eqb, leb-true, le-leb, lt-leb}
 use Rattle.std.proofs.lemmas.List.Concat.{flat_map_single}
 use Rattle.mv_model.specs.declared.limits.TheConstants.{MAX_COMMITS}
-use Rattle.pm_model.specs.Fixed.{last_at, state_at, entry_at, descriptor_at}
-use Rattle.pm_model.specs.Places.{below, page_count}
+use Rattle.image_layout.specs.Fixed.{last_at, state_at, entry_at, descriptor_at}
+use Rattle.image_layout.specs.Places.{below, page_count}
 use Rattle.engine_core.specs.Stage.{high_at}
 use Rattle.engine_core.specs.ImageRules.{last_rule, object_rule, object_checks, entry_rule, entry_checks, is_entry_word, reserved_rule, is_reserved_page, stamp_rule, row_checks}
-use Rattle.pm_model.specs.Checks.{Check, check, first_failing}
-use Rattle.pm_model.proofs.Faults.{fails, passes, fail-first, pass-all}
+use Rattle.image_layout.specs.Checks.{Check, check, first_failing}
+use Rattle.image_layout.proofs.Faults.{fails, passes, fail-first, pass-all}
 
 -- ── checks of each number below one ──
 

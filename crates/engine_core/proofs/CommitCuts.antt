@@ -6,7 +6,7 @@ use Rattle.mv_model.specs.declared.limits.TheConstants.{MAX_COMMITS}
 use Rattle.mv_model.specs.State.{State}
 use Rattle.mv_model.specs.View.{next_row_of}
 use Rattle.pm_model.specs.Device.{IsBetween}
-use Rattle.pm_model.specs.Fixed.{last_at, state_at, commit_word_at, entry_at}
+use Rattle.image_layout.specs.Fixed.{last_at, state_at, commit_word_at, entry_at}
 use Rattle.pm_model.specs.Plans.{Part, one_store, footprint, finished, EachCut}
 use Rattle.pm_model.proofs.Alone.{length-words_after}
 use Rattle.pm_model.proofs.Cuts.{between-kept, between-start, between-end, cut-one_store, each_cut-unless_empty}

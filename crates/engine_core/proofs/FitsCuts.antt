@@ -6,8 +6,8 @@ use Rattle.std.proofs.lemmas.Bool.{cases_eq, ne_eqb}
 use Rattle.mv_model.specs.declared.limits.TheConstants.{MAX_COMMITS}
 use Rattle.mv_model.specs.declared.value.Value.TheVariants.{Int}
 use Rattle.mv_model.specs.State.{CreatedRow, WriteSet, all_idle}
-use Rattle.pm_model.specs.Fixed.{last_at}
-use Rattle.pm_model.proofs.Ranges.{map_same}
+use Rattle.image_layout.specs.Fixed.{last_at}
+use Rattle.image_layout.proofs.Ranges.{map_same}
 use Rattle.txn_object.specs.declared.entry.EntryKind.{EntryKind}
 use Rattle.txn_object.specs.declared.entry.EntryKind.TheVariants.{Created, Ended}
 use Rattle.txn_object.specs.Entries.{entry_of}

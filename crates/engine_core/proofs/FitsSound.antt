@@ -6,12 +6,12 @@ use Rattle.std.proofs.lemmas.Bool.{cases_eq, cases_lt, cond-true, cond-false, co
 use Rattle.std.proofs.lemmas.List.Elements.{All-nil, All-cons, All-head, All-tail, All-append, All-from_recursion, recursion_from_All}
 use Rattle.mv_model.specs.declared.limits.TheConstants.{MAX_COMMITS}
 use Rattle.mv_model.specs.State.{State, Table}
-use Rattle.pm_model.specs.Fixed.{last_at, state_at, commit_word_at, entry_at}
-use Rattle.pm_model.specs.Places.{below}
-use Rattle.pm_model.specs.Checks.{Check, check, Keeps, Numbered, Fault, first_fault, or_else}
+use Rattle.image_layout.specs.Fixed.{last_at, state_at, commit_word_at, entry_at}
+use Rattle.image_layout.specs.Places.{below}
+use Rattle.image_layout.specs.Checks.{Check, check, Keeps, Numbered, Fault, first_fault, or_else}
 use Rattle.pm_model.specs.declared.action.Action.TheVariants.{Store, Flush, Fence, Punch}
 use Rattle.pm_model.specs.Plans.{Part, one_store, stores, finished, footprint, unless_empty}
-use Rattle.pm_model.proofs.Faults.{Holds, keeps_all, first_fault-none, or_else-parts}
+use Rattle.image_layout.proofs.Faults.{Holds, keeps_all, first_fault-none, or_else-parts}
 use Rattle.txn_object.specs.declared.entry.EntryKind.{EntryKind}
 use Rattle.txn_object.specs.declared.entry.EntryKind.TheVariants.{Created, Ended}
 use Rattle.engine_core.specs.Stage.{high_at, born_at, ended_at}

@@ -2,7 +2,7 @@
 use Rattle.std.proofs.Common.{◌≡◌, ℕ, zero, suc, ◌+◌, ◌%◌, ◌<◌, ◌≤◌, ◌∙◌, eqb, List, [], ◌∷◌, get_or, None, refl, ap, arith}
 use Rattle.std.proofs.lemmas.Bool.{cond-false, ne_eqb, or_from, le-ltb}
 use Rattle.mv_model.specs.State.{all_idle}
-use Rattle.pm_model.specs.Fixed.{last_at, state_at, commit_word_at, entry_at}
+use Rattle.image_layout.specs.Fixed.{last_at, state_at, commit_word_at, entry_at}
 use Rattle.engine_core.specs.Stage.{high_at, stage_words}
 use Rattle.engine_core.specs.LogicalState.{commit_count, commits_in, greatest, logical_state, next_row, of_open, one_empty_table, past_entry, state_of, table_of}
 use Rattle.engine_core.proofs.StageImage.{get_or-stage_words}

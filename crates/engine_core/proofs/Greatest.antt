@@ -1,7 +1,7 @@
 -- The greatest of several numbers, and the numbers that an image has by it.
 use Rattle.std.proofs.Common.{◌≡◌, ⊎_elim, ℕ, zero, suc, ◌+◌, ◌/◌, ◌%◌, ◌^◌, ◌<◌, ◌≤◌, true, ◌&&◌, cond, eqb, List, get_or, refl, ◌∙◌, ap, arith}
 use Rattle.std.proofs.lemmas.Bool.{cases_Bool, cases_eq, cond-true, cond-false, eq-eqb, ne_eqb, and_from}
-use Rattle.pm_model.specs.Fixed.{last_at, state_at, commit_word_at, entry_at}
+use Rattle.image_layout.specs.Fixed.{last_at, state_at, commit_word_at, entry_at}
 use Rattle.txn_object.specs.Entries.{entry_of}
 use Rattle.txn_object.specs.declared.entry.EntryKind.TheVariants.{Created, Ended}
 use Rattle.engine_core.specs.Stage.{high_at}

@@ -5,10 +5,10 @@ use Rattle.std.specs.List.{flat_map, range_with_len}
 use Rattle.std.proofs.lemmas.Bool.{cases_eq, eq-eqb, eqb-true, and_from, and_parts, le-leb, leb-true}
 use Rattle.std.proofs.lemmas.List.Elements.{All-nil, All-cons, All-head, All-tail, All-append}
 use Rattle.mv_model.specs.declared.limits.TheConstants.{MAX_COMMITS}
-use Rattle.pm_model.specs.Checks.{Check, check}
-use Rattle.pm_model.specs.Fixed.{magic_at, version_at, last_at, descriptor_at, state_at, commit_word_at, ready_at, first_segment_at, entry_at}
-use Rattle.pm_model.specs.Fresh.{magic_number}
-use Rattle.pm_model.specs.Places.{page_count}
+use Rattle.image_layout.specs.Checks.{Check, check}
+use Rattle.image_layout.specs.Fixed.{magic_at, version_at, last_at, descriptor_at, state_at, commit_word_at, ready_at, first_segment_at, entry_at}
+use Rattle.image_layout.specs.Fresh.{magic_number}
+use Rattle.image_layout.specs.Places.{page_count}
 use Rattle.engine_core.specs.ImageRules.{KeepsEntryRules, object_rule, object_checks, entry_rule, entry_checks, reserved_rule, is_reserved_page, is_entry_word}
 
 -- ── what holds of each element of a range ──

@@ -1,7 +1,7 @@
 -- How many commits and rows an image shows while no object but that of session 1 is open.
 use Rattle.std.proofs.Common.{◌≡◌, ⊎_elim, ℕ, zero, suc, ◌+◌, ◌-◌, ◌*◌, ◌/◌, ◌%◌, ◌^◌, ◌<◌, ◌≤◌, ◌∙◌, max, true, false, ◌&&◌, ◌||◌, not, cond, eqb, ltb, List, get_or, refl, ap, sym, arith}
 use Rattle.std.proofs.lemmas.Bool.{cases_eq, cases_lt, cond-true, cond-false, eq-eqb, ne_eqb, and_from, and_left, or_left, or_right, not_from_false, lt-ltb}
-use Rattle.pm_model.specs.Fixed.{last_at, state_at, commit_word_at, entry_at}
+use Rattle.image_layout.specs.Fixed.{last_at, state_at, commit_word_at, entry_at}
 use Rattle.txn_object.specs.Entries.{entry_word, entry_of}
 use Rattle.engine_core.specs.Stage.{high_at}
 use Rattle.engine_core.specs.StagePlans.{created_entry}

@@ -5,11 +5,11 @@ use Rattle.std.specs.List.{flat_map, range_with_len}
 use Rattle.std.proofs.lemmas.Bool.{cases_eq, cond-true, cond_both, eq-eqb, eqb-true, eqb-false, leb-true, ltb-true, le-leb, and_parts, and_from, or_cases, not-true}
 use Rattle.std.proofs.lemmas.List.Elements.{All-nil, All-cons, All-head, All-tail, All-append, recursion_from_All, All-from_recursion}
 use Rattle.mv_model.specs.declared.limits.TheConstants.{MAX_COMMITS}
-use Rattle.pm_model.specs.Fixed.{magic_at, version_at, last_at, descriptor_at, state_at, commit_word_at, ready_at, first_segment_at, entry_at}
-use Rattle.pm_model.specs.Fresh.{magic_number}
-use Rattle.pm_model.specs.Places.{below, page_count}
-use Rattle.pm_model.specs.Checks.{Check, check, Keeps}
-use Rattle.pm_model.proofs.Faults.{Holds}
+use Rattle.image_layout.specs.Fixed.{magic_at, version_at, last_at, descriptor_at, state_at, commit_word_at, ready_at, first_segment_at, entry_at}
+use Rattle.image_layout.specs.Fresh.{magic_number}
+use Rattle.image_layout.specs.Places.{below, page_count}
+use Rattle.image_layout.specs.Checks.{Check, check, Keeps}
+use Rattle.image_layout.proofs.Faults.{Holds}
 use Rattle.txn_object.specs.Entries.{entry_of}
 use Rattle.engine_core.specs.ImageRules.{reserved_rule, is_reserved_page, object_rule, object_checks, entry_rule, entry_checks, is_entry, is_entry_word, KeepsEntryRules}
 use Rattle.engine_core.proofs.Greatest.{state, commit, entry}

@@ -7,8 +7,8 @@ use Rattle.mv_model.specs.declared.reply.Entry.{Entry}
 use Rattle.pm_model.specs.declared.action.Action.{Action}
 use Rattle.pm_model.specs.Device.{Device, IsCrashImage}
 use Rattle.pm_model.specs.Plans.{at_rest, run, plan_of}
-use Rattle.pm_model.specs.Checks.{Fault, Keeps, first_failing, first_fault, or_else}
-use Rattle.pm_model.proofs.Faults.{all_hold, first_failing-none}
+use Rattle.image_layout.specs.Checks.{Fault, Keeps, first_failing, first_fault, or_else}
+use Rattle.image_layout.proofs.Faults.{all_hold, first_failing-none}
 use Rattle.engine_core.specs.StageRules.{IsStage}
 use Rattle.engine_core.specs.Kept.{IsKept, IsSafe}
 use Rattle.engine_core.specs.ImageRules.{entry_rules, closing_rules, KeepsEntryRules, IsSound, closed_rule, stamp_rule}
@@ -31,7 +31,7 @@ use Rattle.engine_core.proofs.FitsCuts.{rules-now}
 use Rattle.engine_core.proofs.OpeningRounds.{opening-end}
 use Rattle.engine_core.proofs.OpeningCuts.{opening-reaches}
 use Rattle.engine_core.proofs.Steps.{under_way-rests}
-use Rattle.pm_model.proofs.Faults.{keeps_all, first_fault-none}
+use Rattle.image_layout.proofs.Faults.{keeps_all, first_fault-none}
 
 -- a sound image is a stage without a transaction
 stage-sound : (words : List ℕ) → 32768 ≤ length words → IsSound words → IsStage words None

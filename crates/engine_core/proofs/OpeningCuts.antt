@@ -8,13 +8,13 @@ use Rattle.mv_model.specs.declared.limits.TheConstants.{MAX_COMMITS}
 use Rattle.pm_model.specs.declared.action.Action.{Action}
 use Rattle.pm_model.specs.declared.action.Action.TheVariants.{Store, Flush, Fence, Punch}
 use Rattle.pm_model.specs.Device.{Device, acted, IsCrashImage}
-use Rattle.pm_model.specs.Fixed.{last_at, state_at, commit_word_at, ready_at, first_segment_at, entry_at, descriptor_at, magic_at, version_at}
-use Rattle.pm_model.specs.Fresh.{magic_number}
-use Rattle.pm_model.specs.Checks.{Check, check, Keeps}
+use Rattle.image_layout.specs.Fixed.{last_at, state_at, commit_word_at, ready_at, first_segment_at, entry_at, descriptor_at, magic_at, version_at}
+use Rattle.image_layout.specs.Fresh.{magic_number}
+use Rattle.image_layout.specs.Checks.{Check, check, Keeps}
 use Rattle.pm_model.specs.Plans.{Part, Play, IsPlan, plan_of, finished, run, at_rest, EachCut, IsCrashImageWithin, IsTakenBack}
 use Rattle.pm_model.proofs.Alone.{plan_settles, cached-run, length-words_after, length-durable-run}
 use Rattle.pm_model.proofs.Cuts.{each_cut-map}
-use Rattle.pm_model.proofs.Faults.{Holds}
+use Rattle.image_layout.proofs.Faults.{Holds}
 use Rattle.pm_model.proofs.PlanLaw.{plan_begins, plan_plays_on, plan_survives_parts}
 use Rattle.engine_core.specs.Stage.{high_at, born_at, ended_at, is_reserved, stage_words}
 use Rattle.engine_core.specs.LogicalState.{logical_state}

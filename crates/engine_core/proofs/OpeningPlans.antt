@@ -5,14 +5,14 @@ use Rattle.std.proofs.lemmas.Bool.{cases_Bool, cond-true, cond-false, and_from, 
 use Rattle.std.specs.Prelude.{reverse}
 use Rattle.std.proofs.lemmas.List.{drop_more, drop_all, take_all, append-nil, length-append, length-map}
 use Rattle.std.proofs.lemmas.Grind.{flat_map-append}
-use Rattle.pm_model.specs.declared.place.Place.{Place}
+use Rattle.image_layout.specs.declared.place.Place.{Place}
 use Rattle.pm_model.specs.Device.{Device}
 use Rattle.engine_core.specs.LogicalState.{commit_count}
 use Rattle.engine_core.proofs.OpeningCuts.{plan-rests}
 use Rattle.pm_model.specs.declared.action.Action.{Action}
 use Rattle.pm_model.specs.declared.action.Action.TheVariants.{Store, Flush, Fence, Punch}
-use Rattle.pm_model.specs.Fixed.{last_at, state_at, commit_word_at, entry_at}
-use Rattle.pm_model.specs.Places.{below}
+use Rattle.image_layout.specs.Fixed.{last_at, state_at, commit_word_at, entry_at}
+use Rattle.image_layout.specs.Places.{below}
 use Rattle.pm_model.specs.Plans.{Part, store, one_store, stores, words_after, footprint, lines_of, part_end, part_actions, plan_of, unless_empty, finished, IsPlan, EachCut, MayPlay, run, at_rest}
 use Rattle.pm_model.proofs.Alone.{may_play-plan, IsPlan-size}
 use Rattle.pm_model.proofs.Cuts.{finished-append, length-finished, each_cut-start}

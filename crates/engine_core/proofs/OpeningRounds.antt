@@ -2,8 +2,8 @@
 use Rattle.std.proofs.Common.{◌≡◌, ◌≢◌, ◌⊎◌, inl, inr, ⊎_elim, ℕ, ◌+◌, ◌*◌, ◌<◌, ◌≤◌, true, false, eqb, List, [], ◌∷◌, ◌++◌, length, get_or, map, refl, sym, ◌∙◌, subst, arith}
 use Rattle.std.proofs.lemmas.Bool.{cases_eq, cases_lt, or_left, eq-eqb}
 use Rattle.std.proofs.lemmas.List.{get_or_past}
-use Rattle.pm_model.specs.Fixed.{state_at, commit_word_at, ready_at, first_segment_at, entry_at}
-use Rattle.pm_model.specs.Places.{below}
+use Rattle.image_layout.specs.Fixed.{state_at, commit_word_at, ready_at, first_segment_at, entry_at}
+use Rattle.image_layout.specs.Places.{below}
 use Rattle.pm_model.specs.Device.{IsBetween}
 use Rattle.pm_model.specs.Plans.{Part, one_store, stores, words_after, footprint, IsPlan, EachCut}
 use Rattle.pm_model.proofs.Cuts.{between-end}

@@ -3,7 +3,7 @@ use Rattle.std.proofs.Common.{◌≡◌, ◌≢◌, ◌⊎◌, inl, inr, ⊎_eli
 use Rattle.std.specs.List.{flat_map}
 use Rattle.std.proofs.lemmas.Bool.{cases_eq, cases_lt, cond_both, and_parts, and_from, eqb-true, eqb-false, eq-eqb, ne_eqb, not-true, or_left, both_ways}
 use Rattle.std.proofs.lemmas.List.{get_or-set_same, get_or-set_other, get_or_past, length-set}
-use Rattle.pm_model.specs.Fixed.{last_at, state_at, commit_word_at, ready_at, first_segment_at, entry_at}
+use Rattle.image_layout.specs.Fixed.{last_at, state_at, commit_word_at, ready_at, first_segment_at, entry_at}
 use Rattle.pm_model.specs.Device.{IsBetween}
 use Rattle.pm_model.specs.Plans.{Part, one_store, words_after, footprint}
 use Rattle.pm_model.proofs.Cuts.{cut-one_store, between-end}

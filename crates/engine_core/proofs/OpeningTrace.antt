@@ -1,6 +1,6 @@
 -- What opening may have done to the words of an image so far, and that each of its mendings keeps to that.
 use Rattle.std.proofs.Common.{◌≡◌, ◌≢◌, ◌⊎◌, inl, inr, ⊎_elim, ℕ, ◌<◌, ◌≤◌, Bool, true, false, List, length, get_or, refl, sym, ◌∙◌, arith}
-use Rattle.pm_model.specs.Fixed.{last_at, ready_at, first_segment_at}
+use Rattle.image_layout.specs.Fixed.{last_at, ready_at, first_segment_at}
 use Rattle.txn_object.specs.declared.entry.EntryKind.TheVariants.{Created, Ended}
 use Rattle.txn_object.specs.Entries.{entry_of}
 use Rattle.engine_core.specs.Stage.{high_at, born_at, ended_at}

@@ -7,9 +7,9 @@ use Rattle.std.proofs.Math.Seq.{take-append_seam}
 use Rattle.pm_model.specs.declared.action.Action.{Action}
 use Rattle.pm_model.specs.declared.action.Action.TheVariants.{Store, Flush, Fence, Punch}
 use Rattle.pm_model.specs.Device.{Device, acted, writes, IsClean}
-use Rattle.pm_model.specs.declared.place.Place.{Place}
+use Rattle.image_layout.specs.declared.place.Place.{Place}
 use Rattle.pm_model.proofs.Words.{get_or-choose_by}
-use Rattle.pm_model.specs.Fixed.{last_at, commit_word_at}
+use Rattle.image_layout.specs.Fixed.{last_at, commit_word_at}
 use Rattle.pm_model.specs.Plans.{Part, Play, IsPlaying, store, one_store, words_after, footprint, part_actions, plan_of, settled, reached, finished, IsPlan, lines_of, part_end}
 use Rattle.pm_model.proofs.Alone.{length-words_after}
 use Rattle.pm_model.proofs.PlanLaw.{footprint-append, plan_begins, plan_cached, plan_durable, plan_goes_on, words_after-kept, footprint-take}

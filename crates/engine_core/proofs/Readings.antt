@@ -9,7 +9,7 @@ use Rattle.mv_model.specs.View.{created_rows, ended_rows, is_key_of}
 use Rattle.mv_model.specs.declared.value.Value.TheVariants.{Int}
 use Rattle.mv_model.specs.declared.reply.Reply.TheVariants as reply
 use Rattle.mv_model.specs.Answer.{answer}
-use Rattle.pm_model.specs.Fixed.{last_at}
+use Rattle.image_layout.specs.Fixed.{last_at}
 use Rattle.engine_core.specs.Stage.{high_at, born_at, ended_at, value_at}
 use Rattle.engine_core.specs.StageRules.{IsStage}
 use Rattle.engine_core.specs.Served.{get_of}

@@ -16,7 +16,7 @@ use Rattle.mv_model.specs.History.{closed, state_after}
 use Rattle.engine_core.specs.Actions.{actions_due, actions_in}
 use Rattle.pm_model.specs.declared.action.Action.{Action}
 use Rattle.pm_model.specs.Device.{Device, IsCrashImage}
-use Rattle.pm_model.specs.Fixed.{last_at, commit_word_at}
+use Rattle.image_layout.specs.Fixed.{last_at, commit_word_at}
 use Rattle.engine_core.specs.CoreState.{IsDueNext, answered, due, in_flight_of}
 use Rattle.engine_core.specs.Decided.{IsRowBelow}
 use Rattle.engine_core.specs.Kept.{IsKept, IsSafe, Recovers}

@@ -11,7 +11,7 @@ use Rattle.std.proofs.lemmas.Bool.Decides.{nat_tests}
 use Rattle.std.proofs.lemmas.Map.Views.{any-filter_same}
 use Rattle.std.proofs.lemmas.List.{map-append}
 use Rattle.std.proofs.lemmas.List.Folds.{list_any-append}
-use Rattle.pm_model.proofs.Ranges.{range_append, map_same}
+use Rattle.image_layout.proofs.Ranges.{range_append, map_same}
 use Rattle.engine_core.specs.Stage.{born_at, ended_at, value_at}
 use Rattle.engine_core.specs.LogicalState.{commit_of, commits_in, created_row, key_of, integer_of, rows_from, rows_where, within}
 

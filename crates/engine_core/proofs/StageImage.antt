@@ -2,8 +2,8 @@
 use Rattle.std.proofs.Common.{◌≡◌, ⊎_elim, ℕ, ◌+◌, ◌*◌, ◌%◌, ◌<◌, ◌||◌, Bool, true, false, cond, eqb, ltb, List, length, get_or, refl, ap, subst, sym, ◌∙◌, arith}
 use Rattle.std.proofs.lemmas.Bool.{false≢true, ne_eqb, lt-ltb, ltb-true, cases_eq}
 use Rattle.std.proofs.lemmas.List.FromFn.{length-map-range_with_len, get_or-map-range_with_len, fill_by_all}
-use Rattle.pm_model.specs.Fresh.{fresh_word, fresh_words}
-use Rattle.pm_model.proofs.FreshImage.{get_or-fresh_words}
+use Rattle.image_layout.specs.Fresh.{fresh_word, fresh_words}
+use Rattle.image_layout.proofs.FreshImage.{get_or-fresh_words}
 use Rattle.engine_core.specs.Stage.{stage_word, stage_words}
 
 pub length-stage_words : (segments : ℕ) → length (stage_words segments) ≡ 32768 * segments

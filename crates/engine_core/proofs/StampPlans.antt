@@ -4,7 +4,7 @@ use Rattle.std.specs.List.{range_with_len}
 use Rattle.std.proofs.lemmas.List.FromFn.{map-range_with_len_more}
 use Rattle.pm_model.specs.declared.action.Action.{Action}
 use Rattle.pm_model.specs.declared.action.Action.TheVariants.{Store}
-use Rattle.pm_model.specs.declared.place.Place.{Place}
+use Rattle.image_layout.specs.declared.place.Place.{Place}
 use Rattle.pm_model.specs.Plans.{store, stores, part_actions}
 use Rattle.pm_model.proofs.Lines.{length-lines_of, length-part_actions}
 use Rattle.engine_core.specs.Stage.{high_at, born_at}

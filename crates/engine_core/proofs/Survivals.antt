@@ -8,7 +8,7 @@ use Rattle.mv_model.specs.State.{State}
 use Rattle.mv_model.specs.View.{next_row_of}
 use Rattle.pm_model.specs.declared.action.Action.{Action}
 use Rattle.pm_model.specs.Device.{Device, acted, IsClean, IsCrashImage}
-use Rattle.pm_model.specs.Fixed.{last_at, state_at, commit_word_at, entry_at}
+use Rattle.image_layout.specs.Fixed.{last_at, state_at, commit_word_at, entry_at}
 use Rattle.pm_model.specs.Plans.{Part, Play, IsPlaying, IsPlan, EachCut, EachMoment, at_rest, finished, plan_of, run, words_after}
 use Rattle.pm_model.proofs.Alone.{cached-run, length-words_after, IsPlan-size}
 use Rattle.pm_model.proofs.Cuts.{length-finished, store_part}

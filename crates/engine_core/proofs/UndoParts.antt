@@ -2,7 +2,7 @@
 use Rattle.std.proofs.Common.{◌≡◌, ◌≢◌, ◌⊎◌, inl, inr, ⊎_elim, ℕ, zero, suc, ◌+◌, ◌-◌, ◌<◌, ◌≤◌, true, false, ◌&&◌, ◌||◌, not, eqb, ltb, List, [], ◌∷◌, ◌++◌, get_or, map, refl, sym, ◌∙◌, ap, subst, arith}
 use Rattle.std.specs.List.{flat_map, range_with_len}
 use Rattle.std.proofs.lemmas.Bool.{cases_eq, cond_both, cond-true, eqb-true, eq-eqb, ltb-true, lt-ltb, or_cases, or_left, or_right, both_ways}
-use Rattle.pm_model.specs.Fixed.{last_at}
+use Rattle.image_layout.specs.Fixed.{last_at}
 use Rattle.pm_model.specs.Device.{writes}
 use Rattle.pm_model.specs.Plans.{Part, one_store, stores, footprint}
 use Rattle.txn_object.specs.declared.entry.Entry.{Entry}

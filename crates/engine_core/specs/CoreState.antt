@@ -9,7 +9,7 @@ use Rattle.mv_model.specs.History.{state_after}
 use Rattle.pm_model.specs.declared.action.Action.{Action}
 use Rattle.pm_model.specs.declared.action.Action.TheVariants.{Fence}
 use Rattle.pm_model.specs.Device.{Device, acted}
-use Rattle.pm_model.specs.Fixed.{last_at, commit_word_at}
+use Rattle.image_layout.specs.Fixed.{last_at, commit_word_at}
 use Rattle.engine_core.specs.Decided.{IsFullWhere}
 use Rattle.engine_core.specs.LogicalState.{logical_state}
 use Rattle.engine_core.specs.declared.decision.Late.{Late}

@@ -10,7 +10,7 @@ use Rattle.mv_model.specs.History.{IsAllowed}
 use Rattle.mv_model.specs.Next.{next}
 use Rattle.pm_model.specs.declared.action.Action.{Action}
 use Rattle.pm_model.specs.PlanState.{PlanState}
-use Rattle.pm_model.specs.Fixed.{last_at, commit_word_at}
+use Rattle.image_layout.specs.Fixed.{last_at, commit_word_at}
 use Rattle.pm_model.specs.Plans.{Part, plan_of, words_after, IsPlan}
 use Rattle.engine_core.specs.Actions.{actions_due, rows_created}
 use Rattle.engine_core.specs.Recoverable.{Fits}

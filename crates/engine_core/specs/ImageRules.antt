@@ -3,10 +3,10 @@
 use Rattle.std.specs.Prelude.{ℕ, ◌+◌, ◌-◌, ◌/◌, ◌%◌, ◌^◌, Bool, not, ◌&&◌, ◌||◌, ◌==◌, nat_lt, nat_le, if◌then◌else◌, List, [], ◌∷◌, map, filter, slice_index}
 use Rattle.std.specs.List.{flat_map}
 use Rattle.mv_model.specs.declared.limits.TheConstants.{MAX_COMMITS}
-use Rattle.pm_model.specs.Fixed.{magic_at, version_at, last_at, descriptor_at, state_at, commit_word_at, ready_at, first_segment_at, entry_at}
-use Rattle.pm_model.specs.Fresh.{magic_number}
-use Rattle.pm_model.specs.Places.{below, page_count}
-use Rattle.pm_model.specs.Checks.{Check, check, Rule, Keeps, Numbered, numbered}
+use Rattle.image_layout.specs.Fixed.{magic_at, version_at, last_at, descriptor_at, state_at, commit_word_at, ready_at, first_segment_at, entry_at}
+use Rattle.image_layout.specs.Fresh.{magic_number}
+use Rattle.image_layout.specs.Places.{below, page_count}
+use Rattle.image_layout.specs.Checks.{Check, check, Rule, Keeps, Numbered, numbered}
 use Rattle.engine_core.specs.Stage.{high_at, born_at, ended_at}
 
 -- ── rules 1 to 15 hold of every image that a power cut can leave ──

@@ -8,7 +8,7 @@ use Rattle.mv_model.specs.declared.value.Value.TheVariants.{Int}
 use Rattle.mv_model.specs.declared.shape.Column.{Column}
 use Rattle.mv_model.specs.declared.shape.Kind.TheVariants as kind
 use Rattle.mv_model.specs.State.{CreatedRow, RowKey, Table, WriteSet, Transaction, State, all_idle}
-use Rattle.pm_model.specs.Fixed.{last_at, state_at, commit_word_at, entry_at}
+use Rattle.image_layout.specs.Fixed.{last_at, state_at, commit_word_at, entry_at}
 use Rattle.engine_core.specs.Stage.{high_at, born_at, ended_at, value_at}
 use Rattle.engine_core.specs.declared.transactions.Transactions.{Transactions}
 use Rattle.engine_core.specs.declared.transactions.Running.{Running}

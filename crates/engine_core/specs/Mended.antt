@@ -2,8 +2,8 @@
 use Rattle.std.specs.Prelude.{◌≡◌, ℕ, ◌<◌, Bool, false, List, [], ◌∷◌, ◌++◌, length, map, reverse, slice_index_or}
 use Rattle.pm_model.specs.declared.action.Action.TheVariants.{Store, Flush, Fence, Punch}
 use Rattle.pm_model.specs.declared.action.Action.{Action}
-use Rattle.pm_model.specs.Fixed.{commit_word_at, entry_at}
-use Rattle.pm_model.specs.Places.{below}
+use Rattle.image_layout.specs.Fixed.{commit_word_at, entry_at}
+use Rattle.image_layout.specs.Places.{below}
 use Rattle.pm_model.specs.Plans.{Part, IsPlan, footprint, one_store, plan_of, stores}
 use Rattle.engine_core.specs.declared.opening.Mending.TheVariants as code
 use Rattle.engine_core.specs.declared.opening.Mending.{Mending as Named}

@@ -1,6 +1,6 @@
 -- What contracts see of the opening of a memory.
 use Rattle.std.specs.Prelude.{◌≡◌, Option, Some, option_map}
-use Rattle.pm_model.specs.Checks.{Fault}
+use Rattle.image_layout.specs.Checks.{Fault}
 use Rattle.engine_core.specs.declared.rules.Broken.{Broken}
 use Rattle.engine_core.specs.declared.store_core.OpenError.{OpenError}
 use Rattle.engine_core.specs.declared.store_core.OpenError.TheVariants.{BadImage, NoMemory}

@@ -2,11 +2,11 @@
 -- in any of them, and the next opening begins anew.
 use Rattle.std.specs.Prelude.{ℕ, max, Bool, not, ◌&&◌, ◌||◌, ◌==◌, nat_lt, if◌then◌else◌, List, [], ◌∷◌, ◌++◌, map, slice_index, Option}
 use Rattle.std.specs.List.{flat_map}
-use Rattle.pm_model.specs.Fixed.{last_at, state_at, commit_word_at, entry_at}
-use Rattle.pm_model.specs.Places.{below}
+use Rattle.image_layout.specs.Fixed.{last_at, state_at, commit_word_at, entry_at}
+use Rattle.image_layout.specs.Places.{below}
 use Rattle.pm_model.specs.Needed.{needed_parts, Mending}
 use Rattle.pm_model.specs.Plans.{Part, one_store, stores, finished}
-use Rattle.pm_model.specs.Checks.{Fault, or_else, first_fault}
+use Rattle.image_layout.specs.Checks.{Fault, or_else, first_fault}
 use Rattle.txn_object.specs.declared.entry.Entry.{Entry}
 use Rattle.txn_object.specs.declared.entry.EntryKind.{EntryKind}
 use Rattle.txn_object.specs.declared.entry.EntryKind.TheVariants.{Created, Ended}

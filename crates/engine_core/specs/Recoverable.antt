@@ -9,7 +9,7 @@ use Rattle.mv_model.specs.History.{after}
 use Rattle.mv_model.specs.State.{State, Table}
 use Rattle.mv_model.specs.View.{next_row_of}
 use Rattle.pm_model.specs.Device.{Device}
-use Rattle.pm_model.specs.Fixed.{state_at, commit_word_at, entry_at}
+use Rattle.image_layout.specs.Fixed.{state_at, commit_word_at, entry_at}
 use Rattle.txn_object.specs.Entries.{entry_of}
 use Rattle.txn_object.specs.declared.entry.EntryKind.{EntryKind}
 use Rattle.txn_object.specs.declared.entry.EntryKind.TheVariants.{Created, Ended}

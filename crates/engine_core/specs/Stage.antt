@@ -13,8 +13,8 @@
 --   10240 + r      the key word of its value
 use Rattle.std.specs.Prelude.{ℕ, ◌+◌, ◌*◌, ◌%◌, Bool, ◌||◌, ◌==◌, nat_lt, if◌then◌else◌, List, map}
 use Rattle.std.specs.List.{range_with_len}
-use Rattle.pm_model.specs.Fixed.{magic_at, version_at}
-use Rattle.pm_model.specs.Fresh.{magic_number}
+use Rattle.image_layout.specs.Fixed.{magic_at, version_at}
+use Rattle.image_layout.specs.Fresh.{magic_number}
 
 -- how many rows commits have used up
 abbrev pub high_at : ℕ

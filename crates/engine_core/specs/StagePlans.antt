@@ -1,7 +1,7 @@
 -- The plans of a transaction on a stage image. Session 1 has object 0.
 use Rattle.std.specs.Prelude.{ℕ, ◌+◌, List, [], ◌∷◌, ◌++◌, map, true, false}
 use Rattle.std.specs.List.{range_with_len}
-use Rattle.pm_model.specs.Fixed.{last_at, commit_word_at}
+use Rattle.image_layout.specs.Fixed.{last_at, commit_word_at}
 use Rattle.pm_model.specs.Plans.{Part, one_store, stores}
 use Rattle.txn_object.specs.declared.entry.Entry.{Entry}
 use Rattle.txn_object.specs.declared.entry.EntryKind.TheVariants.{Created}

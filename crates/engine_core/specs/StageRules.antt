@@ -1,7 +1,7 @@
 -- What holds of the words of a stage image while session 1 has a transaction open, or none.
 use Rattle.std.specs.Prelude.{◌≡◌, ◌⊎◌, ℕ, ◌+◌, ◌-◌, ◌^◌, ◌<◌, ◌≤◌, List, length, Option, Some, None, slice_index}
 use Rattle.mv_model.specs.declared.limits.TheConstants.{MAX_COMMITS}
-use Rattle.pm_model.specs.Fixed.{last_at, state_at, commit_word_at, entry_at}
+use Rattle.image_layout.specs.Fixed.{last_at, state_at, commit_word_at, entry_at}
 use Rattle.txn_object.specs.Entries.{entry_word}
 use Rattle.engine_core.specs.Stage.{high_at, born_at, ended_at}
 use Rattle.engine_core.specs.StagePlans.{created_entry}

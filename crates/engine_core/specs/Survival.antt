@@ -4,7 +4,7 @@ use Rattle.mv_model.specs.State.{State}
 use Rattle.mv_model.specs.View.{next_row_of}
 use Rattle.pm_model.specs.declared.action.Action.{Action}
 use Rattle.pm_model.specs.Device.{Device, acted, IsCrashImage}
-use Rattle.pm_model.specs.Fixed.{commit_word_at}
+use Rattle.image_layout.specs.Fixed.{commit_word_at}
 use Rattle.pm_model.specs.Plans.{Part, IsPlan, plan_of, EachMoment}
 use Rattle.engine_core.specs.LogicalState.{commit_count, commits_in, next_row}
 use Rattle.engine_core.specs.Recoverable.{Fits}

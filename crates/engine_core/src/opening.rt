@@ -1,9 +1,9 @@
 // Opening mends a memory by one plan after the other, each made from the words as they are.
 ghost use Rattle.std.specs.Prelude.{◌≡◌, false, not, ◌&&◌, ◌==◌, drop, slice_index_or, ℕ, ◌+◌, ◌-◌, ◌*◌, ◌<◌, ◌≤◌, ◌++◌, max, [], ◌∷◌, length, slice_index, map, IfOk, IfNone, IfSome, None, Some, vec_len, vec_capacity};
 ghost use Rattle.std.specs.List.{flat_map};
-ghost use Rattle.pm_model.specs.Fixed.{entry_at, last_at, commit_word_at, state_at};
+ghost use Rattle.image_layout.specs.Fixed.{entry_at, last_at, commit_word_at, state_at};
 ghost use Rattle.pm_model.specs.Device.{IsWhole};
-ghost use Rattle.pm_model.specs.Places.{below};
+ghost use Rattle.image_layout.specs.Places.{below};
 ghost use Rattle.pm_model.specs.Plans.{Part, IsPlan, finished, one_store, stores, part_actions, plan_of, unless_empty, at_rest};
 ghost use Rattle.stage_object.specs.Object.{entries_in};
 ghost use Rattle.engine_core.specs.Stage.{high_at};

@@ -1,8 +1,8 @@
 // The rules of a stage image, tried in their order on the words of a memory.
 ghost use Rattle.std.specs.Prelude.{◌≡◌, ◌+◌, ◌*◌, ◌<◌, ◌≤◌, ◌==◌, ◌&&◌, nat_le, if◌then◌else◌, [], ◌∷◌, length, slice_index};
-ghost use Rattle.pm_model.specs.Fixed.{descriptor_at, entry_at};
+ghost use Rattle.image_layout.specs.Fixed.{descriptor_at, entry_at};
 ghost use Rattle.pm_model.specs.Device.{IsWhole};
-ghost use Rattle.pm_model.specs.Checks.{check, first_failing, first_fault};
+ghost use Rattle.image_layout.specs.Checks.{check, first_failing, first_fault};
 ghost use Rattle.engine_core.specs.Opened.{told};
 ghost use Rattle.engine_core.specs.ImageRules.{magic_rule, version_rule, last_rule, reserved_rule, is_reserved_page, object_rule, object_checks, may_be_commit_word, entry_rule, entry_checks, is_entry, is_entry_word, entry_rules, stamp_rule, row_checks, dead};
 

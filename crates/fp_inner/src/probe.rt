@@ -1,8 +1,8 @@
 // What is looked for, and its order among the key words of a column.
 ghost use Rattle.std.specs.Prelude.{◌≡◌, ◌+◌, ◌≤◌, IsTrue, length};
-ghost use Rattle.pm_model.specs.EntryRules.{is_text_pointer};
-ghost use Rattle.pm_model.specs.Places.{place_in};
-ghost use Rattle.pm_model.specs.Trees.{text_length, text_words};
+ghost use Rattle.image_layout.specs.EntryRules.{is_text_pointer};
+ghost use Rattle.image_layout.specs.Places.{place_in};
+ghost use Rattle.image_layout.specs.Trees.{text_length, text_words};
 ghost use Rattle.std.specs.Ordering.{is_lt, is_gt};
 ghost use Rattle.fp_inner.specs.Keys.{IsKey, is_below, is_above, kind_of};
 

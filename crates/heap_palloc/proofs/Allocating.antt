@@ -4,10 +4,10 @@ use Rattle.std.specs.Prelude.{Contains}
 use Rattle.std.specs.Int.{bit_at}
 use Rattle.std.proofs.lemmas.Bool.{both_ways, not-true, eqb-true, leb-true, and_parts}
 use Rattle.pm_model.specs.Device.{Device, IsWhole}
-use Rattle.pm_model.specs.Places.{page_of, page_count}
-use Rattle.pm_model.specs.Blocks.{slots_of, descriptor_of, says_small, is_inside, is_free_page, is_small_page, class_of, bitmap_of, longest_free_run}
-use Rattle.pm_model.proofs.Members.{Contains-here}
-use Rattle.pm_model.proofs.Heap.{small_class}
+use Rattle.image_layout.specs.Places.{page_of, page_count}
+use Rattle.image_layout.specs.Blocks.{slots_of, descriptor_of, says_small, is_inside, is_free_page, is_small_page, class_of, bitmap_of, longest_free_run}
+use Rattle.image_layout.proofs.Members.{Contains-here}
+use Rattle.image_layout.proofs.Heap.{small_class}
 use Rattle.heap_small.specs.Bitmap.{AreSetBelow}
 use Rattle.heap_big.specs.declared.run.Run.{Run}
 use Rattle.heap_big.specs.Runs.{HasPage, IsFree, IsGreatest, end_of}

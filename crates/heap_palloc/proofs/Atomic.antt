@@ -3,9 +3,9 @@ use Rattle.std.proofs.Common.{◌≡◌, ◌≢◌, ◌⊎◌, inl, inr, ⊎_eli
 use Rattle.std.proofs.lemmas.Bool.{ne_eqb, or_from}
 use Rattle.pm_model.specs.Device.{IsBetween}
 use Rattle.pm_model.specs.Plans.{words_after, finished}
-use Rattle.pm_model.specs.Pointer.{pointer_word}
+use Rattle.image_layout.specs.Pointer.{pointer_word}
 use Rattle.pm_model.proofs.PlanLaw.{words_after-kept}
-use Rattle.pm_model.specs.Fixed.{lane_op_at, lane_dest_at, lane_block_at}
+use Rattle.image_layout.specs.Fixed.{lane_op_at, lane_dest_at, lane_block_at}
 use Rattle.heap_palloc.specs.Lane.{mark_at, mended_lane}
 use Rattle.heap_palloc.specs.Parts.{Allocation, lane_part, allocation_parts, freeing_parts}
 use Rattle.heap_palloc.specs.Shown.{SameButLane, IsAt, MayAllocate, MayFree, IsAtomic}

@@ -2,9 +2,9 @@
 use Rattle.std.proofs.Common.{◌≡◌, ◌≢◌, ◌⊎◌, inl, inr, ⊎_elim, ℕ, zero, suc, ◌+◌, ◌-◌, ◌*◌, ◌/◌, ◌%◌, ◌<◌, ◌≤◌, Bool, true, false, not, ◌&&◌, cond, leb, ltb, List, [], ◌∷◌, length, get_or, refl, sym, ◌∙◌, ap, subst, arith}
 use Rattle.std.specs.List.{range_with_len, flat_map}
 use Rattle.std.proofs.lemmas.Bool.{cases_Bool, cases_eq, cases_lt, cond-false, ltb-false, lt-ltb, le-leb, lt-leb, not_from_false, not_from_true, and_left, and_right, and_from}
-use Rattle.pm_model.specs.Fixed.{descriptor_at}
-use Rattle.pm_model.specs.Places.{page_at, page_count}
-use Rattle.pm_model.specs.Blocks.{Block, descriptor_of, says_small, inside_after, inside_at, is_inside, is_free_page, is_small_page, bitmap_of, blocks_of_page, live_blocks}
+use Rattle.image_layout.specs.Fixed.{descriptor_at}
+use Rattle.image_layout.specs.Places.{page_at, page_count}
+use Rattle.image_layout.specs.Blocks.{Block, descriptor_of, says_small, inside_after, inside_at, is_inside, is_free_page, is_small_page, bitmap_of, blocks_of_page, live_blocks}
 use Rattle.heap_palloc.specs.Shown.{GainsOne}
 use Rattle.heap_palloc.specs.Index.{has_room}
 use Rattle.heap_big.proofs.Gains.{flat_map-gains}

@@ -1,11 +1,11 @@
 -- The plans on a big block: an allocation of clean pages, and a freeing.
 use Rattle.std.proofs.Common.{◌≡◌, ◌≢◌, inl, ⊎_elim, ℕ, ◌+◌, ◌*◌, ◌/◌, ◌%◌, ◌<◌, ◌≤◌, true, List, length, get_or, sym, ◌∙◌, ap, subst, arith}
 use Rattle.std.proofs.lemmas.Bool.{eq-eqb, cond-true, cases_eq}
-use Rattle.pm_model.specs.Fixed.{descriptor_at}
-use Rattle.pm_model.specs.Pointer.{pointer_word}
-use Rattle.pm_model.specs.Places.{page_of, page_at}
+use Rattle.image_layout.specs.Fixed.{descriptor_at}
+use Rattle.image_layout.specs.Pointer.{pointer_word}
+use Rattle.image_layout.specs.Places.{page_of, page_at}
 use Rattle.pm_model.specs.Plans.{finished}
-use Rattle.pm_model.specs.Blocks.{descriptor_of, bitmap_of, is_small_page, live_blocks}
+use Rattle.image_layout.specs.Blocks.{descriptor_of, bitmap_of, is_small_page, live_blocks}
 use Rattle.heap_palloc.specs.Lane.{is_big_place, mark_at, unmarked}
 use Rattle.heap_palloc.specs.Parts.{allocation_parts, freeing_parts}
 use Rattle.heap_palloc.specs.Shown.{IsOutsideLane, IsAt, IsPlaced, IsClearMark, MayAllocate, MayFree}

@@ -2,8 +2,8 @@
 use Rattle.std.proofs.Common.{◌≡◌, ◌⊎◌, inl, inr, ⊎_elim, ℕ, ◌<◌, List, ◌++◌, get_or, refl, sym, ◌∙◌, ap, subst}
 use Rattle.pm_model.specs.declared.action.Action.{Action}
 use Rattle.pm_model.specs.Plans.{EachCut, finished}
-use Rattle.pm_model.specs.Blocks.{Block, live_blocks}
-use Rattle.pm_model.specs.Fixed.{lane_op_at}
+use Rattle.image_layout.specs.Blocks.{Block, live_blocks}
+use Rattle.image_layout.specs.Fixed.{lane_op_at}
 use Rattle.heap_palloc.specs.Lane.{mended_lane}
 use Rattle.heap_palloc.specs.Shown.{IsOutsideLane, SameButLane, IsAtomic}
 use Rattle.heap_palloc.specs.Law.{KeepsElsewhere, Shows, ChangesShown}

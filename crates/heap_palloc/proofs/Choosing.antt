@@ -4,7 +4,7 @@ use Rattle.std.specs.Prelude.{Result, Ok, Err, IfOk}
 use Rattle.std.proofs.lemmas.Bool.{cases_lt, cond-true, cond-false, le-leb, lt-leb}
 use Rattle.pm_model.specs.declared.action.Action.{Action}
 use Rattle.pm_model.specs.Device.{Device, IsWhole}
-use Rattle.pm_model.specs.Blocks.{class_for, pages_for, bitmap_of, longest_free_run}
+use Rattle.image_layout.specs.Blocks.{class_for, pages_for, bitmap_of, longest_free_run}
 use Rattle.heap_small.specs.Bitmap.{IsFirstClear}
 use Rattle.heap_big.specs.declared.run.Run.{Run}
 use Rattle.heap_big.specs.Runs.{longest}

@@ -2,9 +2,9 @@
 use Rattle.std.proofs.Common.{◌≡◌, ◌≢◌, ◌⊎◌, inr, ⊎_elim, ℕ, ◌+◌, ◌-◌, ◌*◌, ◌/◌, ◌%◌, ◌<◌, ◌≤◌, true, false, not, eqb, ltb, leb, List, length, ap, subst, arith}
 use Rattle.std.specs.Prelude.{Contains}
 use Rattle.std.proofs.lemmas.Bool.{cases_eq, false_from_ne_true, not-true, eqb-false, ltb-false, lt-ltb, leb-true, and_parts, or_parts, or_right}
-use Rattle.pm_model.specs.Places.{page_of, page_at, page_count}
-use Rattle.pm_model.specs.Blocks.{Block, slot_words, slot_at, descriptor_of, says_small, says_big, is_inside, is_free_page, is_small_page, is_reserved, class_of, live_blocks}
-use Rattle.pm_model.proofs.Heap.{reserved_descriptor, slot_fits, small_class, big_pages, big_ends, IsSmallOf, IsBigOf, stands, page_of_block, free_pages_unused}
+use Rattle.image_layout.specs.Places.{page_of, page_at, page_count}
+use Rattle.image_layout.specs.Blocks.{Block, slot_words, slot_at, descriptor_of, says_small, says_big, is_inside, is_free_page, is_small_page, is_reserved, class_of, live_blocks}
+use Rattle.image_layout.proofs.Heap.{reserved_descriptor, slot_fits, small_class, big_pages, big_ends, IsSmallOf, IsBigOf, stands, page_of_block, free_pages_unused}
 use Rattle.heap_palloc.specs.Law.{IsOwnerPlace, IsHeapPage}
 use Rattle.heap_palloc.specs.Calls.{KeepsHeapRules, IsDest}
 

@@ -5,11 +5,11 @@ use Rattle.std.proofs.lemmas.Bool.{cond-true, cond-false, eq-eqb, ne_eqb}
 use Rattle.std.proofs.lemmas.List.{map-append, length-map}
 use Rattle.std.proofs.lemmas.List.Elements.{filter-append}
 use Rattle.pm_model.specs.declared.action.Action.{Action}
-use Rattle.pm_model.specs.Fixed.{descriptor_at}
+use Rattle.image_layout.specs.Fixed.{descriptor_at}
 use Rattle.pm_model.specs.declared.action.Action.TheVariants.{Flush, Fence}
 use Rattle.pm_model.specs.Plans.{store, unless_empty, lines_of, part_end, part_actions, plan_of}
 use Rattle.pm_model.proofs.Lines.{last_part, part_has_room}
-use Rattle.pm_model.proofs.Ranges.{range_more}
+use Rattle.image_layout.proofs.Ranges.{range_more}
 use Rattle.heap_palloc.specs.Parts.{forget_given_back}
 
 next : (n : ℕ) → n + 1 ≡ suc n

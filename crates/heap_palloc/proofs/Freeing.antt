@@ -6,12 +6,12 @@ use Rattle.std.proofs.lemmas.Bool.{cases_eq, both_ways, not_from_false, not_from
 use Rattle.std.proofs.lemmas.Grind.{flat_map-append}
 use Rattle.pm_model.specs.declared.action.Action.{Action}
 use Rattle.pm_model.specs.Device.{Device, IsWhole}
-use Rattle.pm_model.specs.Fixed.{descriptor_at}
-use Rattle.pm_model.specs.Pointer.{pointer_word}
-use Rattle.pm_model.specs.Places.{page_of, page_at, page_count, place_in, is_pointer}
+use Rattle.image_layout.specs.Fixed.{descriptor_at}
+use Rattle.image_layout.specs.Pointer.{pointer_word}
+use Rattle.image_layout.specs.Places.{page_of, page_at, page_count, place_in, is_pointer}
 use Rattle.pm_model.specs.Plans.{one_store, part_actions, plan_of, finished}
-use Rattle.pm_model.specs.Blocks.{Block, slot_words, slots_of, slot_at, slot_in, descriptor_of, says_small, is_inside, is_small_page, class_of, bitmap_of, small_block}
-use Rattle.pm_model.proofs.Heap.{IsBigOf, small_class, big_pages, big_ends, page_of_block, free_pages_unused}
+use Rattle.image_layout.specs.Blocks.{Block, slot_words, slots_of, slot_at, slot_in, descriptor_of, says_small, is_inside, is_small_page, class_of, bitmap_of, small_block}
+use Rattle.image_layout.proofs.Heap.{IsBigOf, small_class, big_pages, big_ends, page_of_block, free_pages_unused}
 use Rattle.heap_small.specs.Bitmap.{without_bit}
 use Rattle.heap_big.specs.declared.run.Run.{Run}
 use Rattle.heap_big.specs.Runs.{HasPage, IsFree, IsInSegment, IsWellFormed, Adds, end_of}

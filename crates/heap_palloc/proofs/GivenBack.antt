@@ -4,12 +4,12 @@ use Rattle.std.specs.List.{range_with_len, filter, flat_map}
 use Rattle.std.proofs.lemmas.List.{get_or-set_same, get_or-set_other, get_or_past, length-set}
 use Rattle.std.proofs.lemmas.Bool.{cases_eq, cases_lt, and_parts, eqb-true, eqb-false, ne_eqb, or_from, leb-true}
 use Rattle.pm_model.specs.declared.action.Action.{Action}
-use Rattle.pm_model.specs.Fixed.{descriptor_at, lane_op_at}
-use Rattle.pm_model.specs.Pointer.{pointer_word}
-use Rattle.pm_model.specs.Places.{page_of, page_at, page_count}
+use Rattle.image_layout.specs.Fixed.{descriptor_at, lane_op_at}
+use Rattle.image_layout.specs.Pointer.{pointer_word}
+use Rattle.image_layout.specs.Places.{page_of, page_at, page_count}
 use Rattle.pm_model.specs.Device.{IsBetween}
 use Rattle.pm_model.specs.Plans.{words_after, footprint, IsPart, IsPlan, finished, store, unless_empty}
-use Rattle.pm_model.specs.Blocks.{Block, says_small, descriptor_of, bitmap_of, is_inside, is_free_page, is_small_page, blocks_of_page, live_blocks}
+use Rattle.image_layout.specs.Blocks.{Block, says_small, descriptor_of, bitmap_of, is_inside, is_free_page, is_small_page, blocks_of_page, live_blocks}
 use Rattle.pm_model.proofs.Alone.{length-words_after}
 use Rattle.pm_model.proofs.PlanLaw.{words_after-kept}
 use Rattle.heap_palloc.specs.Lane.{mended_lane}

@@ -2,10 +2,10 @@
 use Rattle.std.proofs.Common.{◌≡◌, ◌≢◌, ◌⊎◌, inl, inr, ⊎_elim, ℕ, ◌+◌, ◌/◌, ◌<◌, ◌≤◌, true, false, not, leb, List, length, set, sym, ◌∙◌, ap, subst, arith}
 use Rattle.std.specs.Int.{bit_at}
 use Rattle.std.proofs.lemmas.Bool.{cases_lt, both_ways, false_from_ne_true, not_from_true, not_from_false, and_right, and_from, and_parts, le-leb, lt-leb, not-true}
-use Rattle.pm_model.specs.Fixed.{descriptor_at}
-use Rattle.pm_model.specs.Places.{page_count}
+use Rattle.image_layout.specs.Fixed.{descriptor_at}
+use Rattle.image_layout.specs.Places.{page_count}
 use Rattle.pm_model.specs.Plans.{finished}
-use Rattle.pm_model.specs.Blocks.{slots_of, descriptor_of, class_of, bitmap_of, is_inside, is_free_page, is_small_page}
+use Rattle.image_layout.specs.Blocks.{slots_of, descriptor_of, class_of, bitmap_of, is_inside, is_free_page, is_small_page}
 use Rattle.heap_small.specs.Bitmap.{with_bit}
 use Rattle.heap_small.proofs.Bitmaps.{without_bit-same}
 use Rattle.heap_big.specs.declared.run.Run.{Run}

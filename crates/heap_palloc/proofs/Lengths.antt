@@ -5,9 +5,9 @@ use Rattle.std.proofs.lemmas.List.{length-append, length-map}
 use Rattle.std.proofs.lemmas.List.FromFn.{length-range_with_len}
 use Rattle.std.proofs.lemmas.Grind.{flat_map-append}
 use Rattle.pm_model.specs.declared.action.Action.{Action}
-use Rattle.pm_model.specs.Fixed.{descriptor_at, lane_op_at}
-use Rattle.pm_model.specs.Pointer.{pointer_word}
-use Rattle.pm_model.specs.Places.{page_of}
+use Rattle.image_layout.specs.Fixed.{descriptor_at, lane_op_at}
+use Rattle.image_layout.specs.Pointer.{pointer_word}
+use Rattle.image_layout.specs.Places.{page_of}
 use Rattle.pm_model.specs.Plans.{Part, plan_of, part_actions, store, one_store, unless_empty}
 use Rattle.pm_model.proofs.Lines.{part_length}
 use Rattle.heap_palloc.specs.Lane.{mark_at}

@@ -3,9 +3,9 @@ use Rattle.std.proofs.Common.{◌≡◌, ◌≢◌, ⊎_elim, ℕ, zero, suc, �
 use Rattle.std.specs.List.{range_with_len, flat_map, filter}
 use Rattle.std.specs.Int.{bit_at}
 use Rattle.std.proofs.lemmas.Bool.{cases_Bool, cond-false, cases_eq}
-use Rattle.pm_model.specs.Fixed.{descriptor_at}
-use Rattle.pm_model.specs.Places.{below, page_at, page_count}
-use Rattle.pm_model.specs.Blocks.{Block, slot_words, slots_of, slot_at, descriptor_of, says_small, says_big, inside_after, inside_at, is_inside, is_small_page, bitmap_of, blocks_of_page, live_blocks}
+use Rattle.image_layout.specs.Fixed.{descriptor_at}
+use Rattle.image_layout.specs.Places.{below, page_at, page_count}
+use Rattle.image_layout.specs.Blocks.{Block, slot_words, slots_of, slot_at, descriptor_of, says_small, says_big, inside_after, inside_at, is_inside, is_small_page, bitmap_of, blocks_of_page, live_blocks}
 use Rattle.heap_palloc.specs.Shown.{GainsOne}
 use Rattle.heap_big.proofs.Gains.{flat_map-same, flat_map-gains}
 

@@ -3,9 +3,9 @@ use Rattle.std.proofs.Common.{◌≡◌, ⊎_elim, ℕ, zero, suc, ◌+◌, ◌-
 use Rattle.std.specs.Prelude.{All, Contains}
 use Rattle.std.proofs.lemmas.Bool.{cases_lt, cond-true}
 use Rattle.std.proofs.lemmas.List.Elements.{All-head, All-tail}
-use Rattle.pm_model.specs.Places.{below, page_count}
-use Rattle.pm_model.specs.Blocks.{is_free_page, free_up_to, longest_free_run}
-use Rattle.pm_model.proofs.Members.{Contains-below, below-Contains, Contains-here, Contains-there, Contains-cons, Contains-nil, Contains-map, map-Contains}
+use Rattle.image_layout.specs.Places.{below, page_count}
+use Rattle.image_layout.specs.Blocks.{is_free_page, free_up_to, longest_free_run}
+use Rattle.image_layout.proofs.Members.{Contains-below, below-Contains, Contains-here, Contains-there, Contains-cons, Contains-nil, Contains-map, map-Contains}
 use Rattle.heap_big.specs.declared.run.Run.{Run}
 use Rattle.heap_big.specs.Runs.{longest, IsGreatest}
 use Rattle.heap_palloc.specs.Index.{HeapIndex, IsIndexOf}

@@ -3,12 +3,12 @@ use Rattle.std.proofs.Common.{◌≢◌, inl, inr, ℕ, ◌<◌, not, eqb, List,
 use Rattle.std.specs.Prelude.{Contains}
 use Rattle.std.proofs.lemmas.Bool.{ne_eqb, not_from_false}
 use Rattle.std.proofs.lemmas.List.Elements.{All-contains}
-use Rattle.pm_model.specs.Fixed.{lane_op_at}
-use Rattle.pm_model.specs.Places.{below}
-use Rattle.pm_model.specs.EntryRules.{KeepsEntryRules}
-use Rattle.pm_model.specs.Owners.{lane_owner, lane_targets, busy_lanes, OwnersAreApart}
-use Rattle.pm_model.proofs.Members.{below-Contains, filter-Contains}
-use Rattle.pm_model.proofs.OwnedBlocks.{IsOwnersPlace, target_place}
+use Rattle.image_layout.specs.Fixed.{lane_op_at}
+use Rattle.image_layout.specs.Places.{below}
+use Rattle.image_layout.specs.EntryRules.{KeepsEntryRules}
+use Rattle.image_layout.specs.Owners.{lane_owner, lane_targets, busy_lanes, OwnersAreApart}
+use Rattle.image_layout.proofs.Members.{below-Contains, filter-Contains}
+use Rattle.image_layout.proofs.OwnedBlocks.{IsOwnersPlace, target_place}
 use Rattle.heap_palloc.specs.Calls.{IsDest}
 
 is_dest : (words : List ℕ) (at : ℕ) → IsOwnersPlace words at → IsDest words at

@@ -5,13 +5,13 @@ use Rattle.std.specs.Prelude.{Contains}
 use Rattle.std.specs.Int.{bit_at}
 use Rattle.std.proofs.lemmas.Bool.{and_parts, not-true, leb-true}
 use Rattle.std.proofs.lemmas.List.Elements.{Contains-append_left, Contains-append_right, Contains-append_cases}
-use Rattle.pm_model.specs.Fixed.{descriptor_at}
-use Rattle.pm_model.specs.Pointer.{pointer_word}
-use Rattle.pm_model.specs.Places.{page_of, page_at}
+use Rattle.image_layout.specs.Fixed.{descriptor_at}
+use Rattle.image_layout.specs.Pointer.{pointer_word}
+use Rattle.image_layout.specs.Places.{page_of, page_at}
 use Rattle.pm_model.specs.Plans.{finished}
-use Rattle.pm_model.specs.Blocks.{Block, slots_of, slot_at, slot_in, descriptor_of, bitmap_of, class_of, says_small, is_inside, live_blocks}
-use Rattle.pm_model.proofs.Heap.{IsSmallOf, IsBigOf, page_of_block, small_class, big_pages, stands, live_blocks_apart}
-use Rattle.pm_model.proofs.Members.{Contains-there, Contains-cons}
+use Rattle.image_layout.specs.Blocks.{Block, slots_of, slot_at, slot_in, descriptor_of, bitmap_of, class_of, says_small, is_inside, live_blocks}
+use Rattle.image_layout.proofs.Heap.{IsSmallOf, IsBigOf, page_of_block, small_class, big_pages, stands, live_blocks_apart}
+use Rattle.image_layout.proofs.Members.{Contains-there, Contains-cons}
 use Rattle.heap_palloc.specs.Parts.{allocation_parts}
 use Rattle.heap_palloc.specs.Shown.{GainsOne}
 use Rattle.heap_palloc.specs.Law.{IsElsewhere, KeepsElsewhere, Shows, IsHeapPage, IsIdle, pages_allocation}

@@ -9,9 +9,9 @@ use Rattle.std.proofs.lemmas.Nat.Bits.{bit_at-zero}
 use Rattle.std.proofs.lemmas.Grind.{flat_map-append}
 use Rattle.pm_model.specs.declared.action.Action.{Action}
 use Rattle.pm_model.specs.Device.{Device, IsWhole}
-use Rattle.pm_model.specs.Places.{page_of, page_at}
+use Rattle.image_layout.specs.Places.{page_of, page_at}
 use Rattle.pm_model.specs.Plans.{part_actions, plan_of, unless_empty}
-use Rattle.pm_model.specs.Blocks.{slot_words, slots_of, slot_at, longest_free_run}
+use Rattle.image_layout.specs.Blocks.{slot_words, slots_of, slot_at, longest_free_run}
 use Rattle.heap_small.specs.Bitmap.{with_bit}
 use Rattle.heap_small.proofs.Bitmaps.{with_bit-same, with_bit-other}
 use Rattle.heap_big.specs.declared.run.Run.{Run}

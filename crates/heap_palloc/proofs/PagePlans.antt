@@ -5,11 +5,11 @@ use Rattle.std.proofs.lemmas.List.{get_or-set_same, get_or-set_other, length-set
 use Rattle.std.proofs.lemmas.Bool.{and_parts, and_right, and_left, eqb-true, eq-eqb, ne_eqb, leb-true, le-leb, lt-leb}
 use Rattle.std.proofs.lemmas.Nat.Bits.{bit_at-zero}
 use Rattle.pm_model.specs.declared.action.Action.{Action}
-use Rattle.pm_model.specs.Fixed.{descriptor_at, lane_op_at}
-use Rattle.pm_model.specs.Pointer.{pointer_word}
-use Rattle.pm_model.specs.Places.{page_of, page_at}
+use Rattle.image_layout.specs.Fixed.{descriptor_at, lane_op_at}
+use Rattle.image_layout.specs.Pointer.{pointer_word}
+use Rattle.image_layout.specs.Places.{page_of, page_at}
 use Rattle.pm_model.specs.Plans.{EachCut, finished}
-use Rattle.pm_model.specs.Blocks.{Block, slot_words, slot_at, says_small, descriptor_of, bitmap_of, class_of, is_inside, is_small_page, live_blocks}
+use Rattle.image_layout.specs.Blocks.{Block, slot_words, slot_at, says_small, descriptor_of, bitmap_of, class_of, is_inside, is_small_page, live_blocks}
 use Rattle.heap_small.specs.Bitmap.{with_bit}
 use Rattle.heap_palloc.specs.Lane.{mended_lane}
 use Rattle.heap_palloc.specs.Parts.{Allocation, allocation_parts, new_page_parts, new_page_allocation_parts, freeing_parts, free_page_parts, small_freeing_parts}

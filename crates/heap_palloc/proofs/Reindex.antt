@@ -2,8 +2,8 @@
 use Rattle.std.proofs.Common.{◌≡◌, ◌≢◌, inl, inr, ⊎_elim, ℕ, ◌+◌, ◌/◌, ◌<◌, ◌≤◌, Bool, true, false, not, ◌&&◌, eqb, leb, List, length, sym, ◌∙◌, ap, subst, arith}
 use Rattle.std.specs.Prelude.{◌↔◌}
 use Rattle.std.proofs.lemmas.Bool.{cases_Bool, cases_eq, both_ways, eq-eqb, ne_eqb, and_left, and_right, lt-leb}
-use Rattle.pm_model.specs.Places.{page_count}
-use Rattle.pm_model.specs.Blocks.{says_small, descriptor_of, class_of, bitmap_of, is_inside, is_free_page, is_small_page}
+use Rattle.image_layout.specs.Places.{page_count}
+use Rattle.image_layout.specs.Blocks.{says_small, descriptor_of, class_of, bitmap_of, is_inside, is_free_page, is_small_page}
 use Rattle.heap_big.proofs.Heads.{has_or_not}
 use Rattle.heap_big.specs.declared.run.Run.{Run}
 use Rattle.heap_big.specs.Runs.{FreeRuns, HasPage, IsFree, IsWellFormed, Adds, Removes}

@@ -4,9 +4,9 @@ use Rattle.std.specs.Prelude.{◌↔◌, Contains, filter}
 use Rattle.std.specs.List.{range_with_len, list_all}
 use Rattle.std.specs.Int.{bit_at}
 use Rattle.std.proofs.lemmas.Bool.{cases_Bool, cases_eq, eqb-true, eq-eqb, and_left, and_parts, and_from}
-use Rattle.pm_model.specs.Places.{below, page_count}
-use Rattle.pm_model.specs.Blocks.{slots_of, descriptor_of, class_of, bitmap_of, is_inside, is_free_page, is_small_page}
-use Rattle.pm_model.proofs.Members.{Contains-below, below-Contains, Contains-filter, filter-Contains}
+use Rattle.image_layout.specs.Places.{below, page_count}
+use Rattle.image_layout.specs.Blocks.{slots_of, descriptor_of, class_of, bitmap_of, is_inside, is_free_page, is_small_page}
+use Rattle.image_layout.proofs.Members.{Contains-below, below-Contains, Contains-filter, filter-Contains}
 use Rattle.heap_small.specs.Bitmap.{AreSetBelow}
 use Rattle.heap_big.specs.Pages.{IsRising}
 use Rattle.heap_palloc.specs.Shown.{GainsOne}

@@ -5,17 +5,17 @@ use Rattle.std.proofs.lemmas.Bool.{cases_Bool, cases_eq, cases_lt, both_ways, no
 use Rattle.std.proofs.lemmas.List.Elements.{All-contains}
 use Rattle.std.proofs.lemmas.Nat.{or_lt, xor_lt, pow_pos}
 use Rattle.std.proofs.Math.Pow.{pow-lt}
-use Rattle.pm_model.specs.Fixed.{descriptor_at}
-use Rattle.pm_model.specs.Places.{below, page_at, page_count}
+use Rattle.image_layout.specs.Fixed.{descriptor_at}
+use Rattle.image_layout.specs.Places.{below, page_at, page_count}
 use Rattle.pm_model.specs.Plans.{finished}
-use Rattle.pm_model.specs.Blocks.{slots_of, descriptor_of, says_small, says_big, is_inside, is_small_page, is_reserved, class_of, bitmap_of}
-use Rattle.pm_model.specs.Checks.{check}
-use Rattle.pm_model.specs.HeapRules.{reserved_rule, descriptor_rule, bitmap_rule, is_descriptor}
-use Rattle.pm_model.specs.Fresh.{fresh_word, fresh_words, is_reserved_descriptor}
-use Rattle.pm_model.proofs.Faults.{mapped_hold}
-use Rattle.pm_model.proofs.FreshImage.{length-fresh_words, get_or-fresh_words}
-use Rattle.pm_model.proofs.Heap.{Holds, reserved_descriptor, known_descriptor, small_class}
-use Rattle.pm_model.proofs.Members.{below-Contains, Contains-below, Contains-filter, filter-Contains, map-Contains}
+use Rattle.image_layout.specs.Blocks.{slots_of, descriptor_of, says_small, says_big, is_inside, is_small_page, is_reserved, class_of, bitmap_of}
+use Rattle.image_layout.specs.Checks.{check}
+use Rattle.image_layout.specs.HeapRules.{reserved_rule, descriptor_rule, bitmap_rule, is_descriptor}
+use Rattle.image_layout.specs.Fresh.{fresh_word, fresh_words, is_reserved_descriptor}
+use Rattle.image_layout.proofs.Faults.{mapped_hold}
+use Rattle.image_layout.proofs.FreshImage.{length-fresh_words, get_or-fresh_words}
+use Rattle.image_layout.proofs.Heap.{Holds, reserved_descriptor, known_descriptor, small_class}
+use Rattle.image_layout.proofs.Members.{below-Contains, Contains-below, Contains-filter, filter-Contains, map-Contains}
 use Rattle.heap_small.specs.Bitmap.{with_bit, without_bit}
 use Rattle.heap_palloc.specs.Parts.{allocation_parts, new_page_allocation_parts, big_allocation_parts, freeing_parts, small_freeing_parts}
 use Rattle.heap_palloc.specs.Law.{IsHeapPage, IsSmallPage, Slot, slot_allocation, taking, taken, Pages, pages_allocation, MayTakeSlot, MayTakeNewSlot, MayTakeRun, MayFreeSlot, MayFreePages}

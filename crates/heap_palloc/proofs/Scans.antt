@@ -5,16 +5,16 @@ use Rattle.std.specs.List.{range_with_len, filter}
 use Rattle.std.proofs.lemmas.Bool.{cases_eq, eq-eqb, ne_eqb, lt-ltb, ltb-false, le-ltb, le-leb, leb-true, and_parts, and_from, and_left, and_right, not-true, not_from_true, not_from_false, cond-true, cond-false}
 use Rattle.std.proofs.lemmas.List.FromFn.{length-map-range_with_len, get_or-map-range_with_len}
 use Rattle.pm_model.specs.Device.{Device, IsWhole}
-use Rattle.pm_model.specs.Places.{below, page_count}
-use Rattle.pm_model.specs.Blocks.{descriptor_of, says_small, inside_after, inside_at, is_inside, is_free_page, is_small_page, class_of, bitmap_of}
+use Rattle.image_layout.specs.Places.{below, page_count}
+use Rattle.image_layout.specs.Blocks.{descriptor_of, says_small, inside_after, inside_at, is_inside, is_free_page, is_small_page, class_of, bitmap_of}
 use Rattle.std.proofs.lemmas.List.Elements.{Contains-append_left, Contains-append_right}
-use Rattle.pm_model.proofs.Members.{Contains-here, Contains-below, Contains-filter}
+use Rattle.image_layout.proofs.Members.{Contains-here, Contains-below, Contains-filter}
 use Rattle.heap_big.specs.Descriptors.{inside_next, IsFreePage}
 use Rattle.heap_big.specs.Descriptors as big
 use Rattle.heap_big.specs.Pages.{IsRising}
 use Rattle.heap_big.specs.Runs.{FreeRuns, IsFree, IsWellFormed}
 use Rattle.heap_palloc.specs.Index.{HeapIndex, rooms_of, is_full, has_room, pages_with_room, IsIndexOf}
-use Rattle.pm_model.proofs.Ranges.{map_append, filter_append, map_more, filter_hit, filter_miss, filter-filter, filter_last}
+use Rattle.image_layout.proofs.Ranges.{map_append, filter_append, map_more, filter_hit, filter_miss, filter-filter, filter_last}
 use Rattle.heap_big.proofs.Rising.{rising-lower, filter-rising}
 
 -- ── a page of a segment ──

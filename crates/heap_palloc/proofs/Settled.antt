@@ -4,14 +4,14 @@ use Rattle.std.specs.Prelude.{Contains, Result, Ok, IfOk}
 use Rattle.std.proofs.lemmas.List.Elements.{Contains-append_right}
 use Rattle.pm_model.specs.declared.action.Action.{Action}
 use Rattle.pm_model.specs.Device.{Device, IsClean, IsWhole}
-use Rattle.pm_model.specs.Pointer.{pointer_word}
+use Rattle.image_layout.specs.Pointer.{pointer_word}
 use Rattle.pm_model.specs.Plans.{Part, Play, IsPlan, IsPlaying, MayPlay, HasEnded, plan_of, finished, run, at_rest}
-use Rattle.pm_model.specs.Places.{page_of, page_at}
-use Rattle.pm_model.specs.Blocks.{Block, slot_words, slots_of, slot_at, live_blocks}
-use Rattle.pm_model.proofs.Heap.{slot_fits}
-use Rattle.pm_model.specs.Fresh.{fresh_words}
+use Rattle.image_layout.specs.Places.{page_of, page_at}
+use Rattle.image_layout.specs.Blocks.{Block, slot_words, slots_of, slot_at, live_blocks}
+use Rattle.image_layout.proofs.Heap.{slot_fits}
+use Rattle.image_layout.specs.Fresh.{fresh_words}
 use Rattle.pm_model.proofs.Cuts.{length-finished}
-use Rattle.pm_model.proofs.Members.{Contains-here}
+use Rattle.image_layout.proofs.Members.{Contains-here}
 use Rattle.pm_model.proofs.PlanLaw.{plan_begins, plan_may_play, plan_plays_on, plan_ends, size_start}
 use Rattle.pm_model.proofs.Words.{ext_words}
 use Rattle.heap_palloc.specs.Shown.{GainsOne}

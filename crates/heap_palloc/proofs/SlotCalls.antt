@@ -5,9 +5,9 @@ use Rattle.std.specs.Option.{is_some}
 use Rattle.std.proofs.lemmas.Bool.{both_ways, false_from_ne_true, true_from_ne_false}
 use Rattle.pm_model.specs.declared.action.Action.{Action}
 use Rattle.pm_model.specs.Device.{Device, IsWhole}
-use Rattle.pm_model.specs.Places.{page_count}
+use Rattle.image_layout.specs.Places.{page_count}
 use Rattle.pm_model.specs.Plans.{plan_of}
-use Rattle.pm_model.specs.Blocks.{slot_words, slots_of, slot_at, bitmap_of}
+use Rattle.image_layout.specs.Blocks.{slot_words, slots_of, slot_at, bitmap_of}
 use Rattle.heap_small.specs.Bitmap.{AreSetBelow, IsFirstClear, with_bit}
 use Rattle.heap_palloc.specs.Parts.{allocation_parts}
 use Rattle.heap_palloc.specs.Law.{Slot, taking, MayTakeSlot}

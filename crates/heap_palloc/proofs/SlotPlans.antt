@@ -1,11 +1,11 @@
 -- The plans on a slot: an allocation, one on a new page, and a freeing.
 use Rattle.std.proofs.Common.{◌≡◌, ◌≢◌, inr, ⊎_elim, ℕ, ◌+◌, ◌/◌, ◌<◌, List, length, get_or, sym, ◌∙◌, ap, subst, arith}
 use Rattle.std.specs.Int.{bit_at}
-use Rattle.pm_model.specs.Fixed.{descriptor_at, lane_op_at}
-use Rattle.pm_model.specs.Pointer.{pointer_word}
-use Rattle.pm_model.specs.Places.{page_of, page_at}
+use Rattle.image_layout.specs.Fixed.{descriptor_at, lane_op_at}
+use Rattle.image_layout.specs.Pointer.{pointer_word}
+use Rattle.image_layout.specs.Places.{page_of, page_at}
 use Rattle.pm_model.specs.Plans.{finished}
-use Rattle.pm_model.specs.Blocks.{slot_words, slots_of, slot_at, descriptor_of, bitmap_of, is_small_page, live_blocks}
+use Rattle.image_layout.specs.Blocks.{slot_words, slots_of, slot_at, descriptor_of, bitmap_of, is_small_page, live_blocks}
 use Rattle.heap_small.specs.Bitmap.{with_bit, without_bit}
 use Rattle.heap_palloc.specs.Lane.{mark_at, unmarked}
 use Rattle.heap_palloc.specs.Parts.{Allocation, allocation_parts, freeing_parts}

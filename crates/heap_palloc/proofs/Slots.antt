@@ -3,9 +3,9 @@ use Rattle.std.proofs.Common.{◌≡◌, ◌≢◌, ⊎_elim, ℕ, ◌+◌, ◌-
 use Rattle.std.specs.List.{filter}
 use Rattle.std.specs.Int.{bit_at}
 use Rattle.std.proofs.lemmas.Bool.{cases_eq, cond-true, cond-false, eq-eqb, ne_eqb}
-use Rattle.pm_model.specs.Fixed.{descriptor_at}
-use Rattle.pm_model.specs.Places.{below, page_of, page_at}
-use Rattle.pm_model.specs.Blocks.{Block, slot_words, slots_of, slot_at, slot_in, descriptor_of, is_small_page, bitmap_of, class_of, blocks_of_page, live_blocks}
+use Rattle.image_layout.specs.Fixed.{descriptor_at}
+use Rattle.image_layout.specs.Places.{below, page_of, page_at}
+use Rattle.image_layout.specs.Blocks.{Block, slot_words, slots_of, slot_at, slot_in, descriptor_of, is_small_page, bitmap_of, class_of, blocks_of_page, live_blocks}
 use Rattle.heap_small.specs.Bitmap.{without_bit}
 use Rattle.heap_palloc.specs.Lane.{is_big_place, mark_at, unmarked}
 use Rattle.heap_palloc.specs.Parts.{Allocation}

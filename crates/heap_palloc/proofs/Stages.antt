@@ -2,9 +2,9 @@
 use Rattle.std.proofs.Common.{◌≡◌, ◌≢◌, ◌⊎◌, ⊎_elim, ℕ, ◌<◌, eqb, List, length, get_or, set, refl, sym, ◌∙◌, ap, subst, arith}
 use Rattle.std.proofs.lemmas.List.{get_or-set_same, get_or-set_other, length-set}
 use Rattle.std.proofs.lemmas.Bool.{cases_eq, eq-eqb, ne_eqb, cond-true, cond-false}
-use Rattle.pm_model.specs.Fixed.{descriptor_at, lane_op_at, lane_dest_at, lane_block_at}
-use Rattle.pm_model.specs.Pointer.{pointer_word}
-use Rattle.pm_model.specs.Places.{page_of, place_in}
+use Rattle.image_layout.specs.Fixed.{descriptor_at, lane_op_at, lane_dest_at, lane_block_at}
+use Rattle.image_layout.specs.Pointer.{pointer_word}
+use Rattle.image_layout.specs.Places.{page_of, place_in}
 use Rattle.heap_palloc.specs.Lane.{is_big_place, mark_at, unmarked, released, undone, mended_by, mended_lane}
 use Rattle.heap_palloc.specs.Parts.{Allocation}
 use Rattle.heap_palloc.specs.Shown.{IsOutsideLane, SameButLane, IsAt, IsPlaced, IsClearMark}

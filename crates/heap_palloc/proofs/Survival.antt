@@ -4,12 +4,12 @@ use Rattle.std.specs.Prelude.{IsTrue}
 use Rattle.std.specs.Int.{bit_at}
 use Rattle.std.proofs.lemmas.Bool.{eqb-true, ne_eqb, or_from}
 use Rattle.pm_model.specs.declared.action.Action.{Action}
-use Rattle.pm_model.specs.Fixed.{descriptor_at, lane_op_at, lane_dest_at, lane_block_at}
-use Rattle.pm_model.specs.Pointer.{pointer_word}
-use Rattle.pm_model.specs.Places.{page_at}
+use Rattle.image_layout.specs.Fixed.{descriptor_at, lane_op_at, lane_dest_at, lane_block_at}
+use Rattle.image_layout.specs.Pointer.{pointer_word}
+use Rattle.image_layout.specs.Places.{page_at}
 use Rattle.pm_model.specs.Device.{Device, IsClean}
 use Rattle.pm_model.specs.Plans.{plan_of, footprint, IsPart, IsPlan, Play, IsPlaying, IsCrashImageWithin, IsTakenBack, one_store}
-use Rattle.pm_model.specs.Blocks.{Block}
+use Rattle.image_layout.specs.Blocks.{Block}
 use Rattle.pm_model.proofs.Cuts.{store_part, plan-append}
 use Rattle.pm_model.proofs.PlanLaw.{plan_survives_cuts, plan_ends, plan_ended_image}
 use Rattle.heap_small.specs.Bitmap.{with_bit}

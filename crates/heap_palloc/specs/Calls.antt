@@ -2,13 +2,13 @@
 use Rattle.std.specs.Prelude.{◌≡◌, ◌⊎◌, ℕ, ◌+◌, ◌<◌, ◌≤◌, List, [], Contains, slice_index}
 use Rattle.pm_model.specs.declared.action.Action.{Action}
 use Rattle.pm_model.specs.Device.{Device, IsClean}
-use Rattle.pm_model.specs.Fixed.{lane_op_at}
-use Rattle.pm_model.specs.Pointer.{pointer_word}
-use Rattle.pm_model.specs.Places.{page_of, page_at}
+use Rattle.image_layout.specs.Fixed.{lane_op_at}
+use Rattle.image_layout.specs.Pointer.{pointer_word}
+use Rattle.image_layout.specs.Places.{page_of, page_at}
 use Rattle.pm_model.specs.Plans.{plan_of, finished}
-use Rattle.pm_model.specs.Blocks.{Block, descriptor_of, class_for, live_blocks, longest_free_run}
-use Rattle.pm_model.specs.Checks.{Keeps}
-use Rattle.pm_model.specs.HeapRules.{reserved_rule, descriptor_rule, bitmap_rule}
+use Rattle.image_layout.specs.Blocks.{Block, descriptor_of, class_for, live_blocks, longest_free_run}
+use Rattle.image_layout.specs.Checks.{Keeps}
+use Rattle.image_layout.specs.HeapRules.{reserved_rule, descriptor_rule, bitmap_rule}
 use Rattle.heap_palloc.specs.Index.{HeapIndex, IsIndexOf, pages_with_room}
 use Rattle.heap_palloc.specs.Choice.{Choice, choice_parts, choice_block, IsThrough, IsChosen, MayMake, needed_pages, Freed, freed_named, freed_parts, freed_block, MayRelease}
 

@@ -1,8 +1,8 @@
 -- Where an allocation goes, all its ways as one: so users of the heap have one law. And which block a freeing frees.
 use Rattle.std.specs.Prelude.{◌≡◌, ℕ, ◌-◌, ◌*◌, ◌<◌, ◌≤◌, nat_le, if◌then◌else◌, List, [], ◌∷◌, slice_index}
 use Rattle.pm_model.specs.declared.action.Action.{Action}
-use Rattle.pm_model.specs.Places.{page_of, page_at, place_in}
-use Rattle.pm_model.specs.Blocks.{Block, slot_words, slot_at, slot_in, class_for, pages_for, descriptor_of, bitmap_of}
+use Rattle.image_layout.specs.Places.{page_of, page_at, place_in}
+use Rattle.image_layout.specs.Blocks.{Block, slot_words, slot_at, slot_in, class_for, pages_for, descriptor_of, bitmap_of}
 use Rattle.heap_small.specs.Bitmap.{IsFirstClear, with_bit, without_bit}
 use Rattle.heap_big.specs.declared.run.Run.{Run}
 use Rattle.heap_big.specs.Fit.{TakesBestFit}

@@ -2,8 +2,8 @@
 use Rattle.std.specs.Prelude.{◌≡◌, ◌↔◌, ℕ, ◌<◌, Bool, true, not, ◌&&◌, ◌==◌, List, [], filter, slice_index_or}
 use Rattle.std.specs.List.{list_all}
 use Rattle.std.specs.Int.{bit_at}
-use Rattle.pm_model.specs.Places.{below, page_count}
-use Rattle.pm_model.specs.Blocks.{slots_of, class_of, bitmap_of, is_free_page, is_small_page}
+use Rattle.image_layout.specs.Places.{below, page_count}
+use Rattle.image_layout.specs.Blocks.{slots_of, class_of, bitmap_of, is_free_page, is_small_page}
 use Rattle.heap_big.specs.Runs.{FreeRuns, IsFree, IsWellFormed}
 
 -- its free runs, and of each class the small pages with a free slot, in ascending place

@@ -1,8 +1,8 @@
 -- A lane is the log of one allocation or freeing. Opening an image mends the lanes that a power cut left at work.
 use Rattle.std.specs.Prelude.{ℕ, ◌-◌, ◌%◌, Bool, ◌==◌, if◌then◌else◌, List, slice_index, slice_set}
-use Rattle.pm_model.specs.Fixed.{descriptor_at, lane_op_at, lane_dest_at, lane_block_at}
-use Rattle.pm_model.specs.Places.{page_of, page_at, place_in}
-use Rattle.pm_model.specs.Blocks.{slot_in}
+use Rattle.image_layout.specs.Fixed.{descriptor_at, lane_op_at, lane_dest_at, lane_block_at}
+use Rattle.image_layout.specs.Places.{page_of, page_at, place_in}
+use Rattle.image_layout.specs.Blocks.{slot_in}
 use Rattle.heap_small.specs.Bitmap.{without_bit}
 
 -- a block that begins where a page does is a big one

@@ -2,10 +2,10 @@
 use Rattle.std.specs.Prelude.{◌≡◌, ◌≢◌, ◌⊎◌, ℕ, ◌+◌, ◌%◌, ◌<◌, ◌≤◌, true, false, List, length, slice_index}
 use Rattle.std.specs.Int.{bit_at}
 use Rattle.pm_model.specs.declared.action.Action.{Action}
-use Rattle.pm_model.specs.Fixed.{descriptor_at, lane_op_at}
-use Rattle.pm_model.specs.Pointer.{pointer_word}
-use Rattle.pm_model.specs.Places.{page_of, page_at, page_count}
-use Rattle.pm_model.specs.Blocks.{Block, slot_words, slots_of, slot_at, descriptor_of, bitmap_of, is_inside, is_small_page, is_free_page, live_blocks}
+use Rattle.image_layout.specs.Fixed.{descriptor_at, lane_op_at}
+use Rattle.image_layout.specs.Pointer.{pointer_word}
+use Rattle.image_layout.specs.Places.{page_of, page_at, page_count}
+use Rattle.image_layout.specs.Blocks.{Block, slot_words, slots_of, slot_at, descriptor_of, bitmap_of, is_inside, is_small_page, is_free_page, live_blocks}
 use Rattle.pm_model.specs.Plans.{EachCut, finished}
 use Rattle.heap_small.specs.Bitmap.{with_bit}
 use Rattle.heap_palloc.specs.Lane.{mended_lane}

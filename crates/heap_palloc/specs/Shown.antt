@@ -1,9 +1,9 @@
 -- What the words show of an allocation or a freeing, and when one may begin.
 use Rattle.std.specs.Prelude.{◌≡◌, ◌≢◌, ◌⊎◌, ℕ, ◌<◌, ◌≤◌, true, List, length, slice_index}
 use Rattle.pm_model.specs.declared.action.Action.{Action}
-use Rattle.pm_model.specs.Fixed.{descriptor_at, lane_op_at, lane_dest_at, lane_block_at}
-use Rattle.pm_model.specs.Pointer.{pointer_word}
-use Rattle.pm_model.specs.Places.{page_of}
+use Rattle.image_layout.specs.Fixed.{descriptor_at, lane_op_at, lane_dest_at, lane_block_at}
+use Rattle.image_layout.specs.Pointer.{pointer_word}
+use Rattle.image_layout.specs.Places.{page_of}
 use Rattle.pm_model.specs.Plans.{EachCut, finished}
 use Rattle.heap_palloc.specs.Lane.{is_big_place, mark_at, unmarked, mended_lane}
 use Rattle.heap_palloc.specs.Parts.{Allocation}

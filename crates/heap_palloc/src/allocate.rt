@@ -1,6 +1,6 @@
 // Planning an allocation.
 ghost use Rattle.std.specs.Prelude.{◌≡◌, ◌⊎◌, ◌+◌, ◌*◌, ◌<◌, ◌≤◌, ◌++◌, [], ◌∷◌, ℕ, List, IfOk, IfErr, OnErr, length, slice_index};
-ghost use Rattle.pm_model.specs.Blocks.{bitmap_of, class_for, longest_free_run, pages_for};
+ghost use Rattle.image_layout.specs.Blocks.{bitmap_of, class_for, longest_free_run, pages_for};
 ghost use Rattle.pm_model.specs.Plans.{plan_of, unless_empty};
 ghost use Rattle.heap_small.specs.Bitmap.{IsFirstClear};
 ghost use Rattle.heap_big.specs.declared.run.Run.{Run};

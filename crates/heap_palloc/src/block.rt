@@ -1,5 +1,5 @@
 ghost use Rattle.std.specs.Prelude.{◌≡◌, ◌+◌, ◌*◌, ◌<◌};
-ghost use Rattle.pm_model.specs.Blocks.{slot_at, slot_words, slots_of};
+ghost use Rattle.image_layout.specs.Blocks.{slot_at, slot_words, slots_of};
 
 use heap_small::{Class, class_words};
 use pm_model::{FIRST_SLOT, PAGE_WORDS, Place};

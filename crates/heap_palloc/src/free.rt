@@ -3,8 +3,8 @@ ghost use Rattle.std.specs.Prelude.{◌≡◌, ◌≢◌, ◌<◌, ℕ, false, t
 ghost use Rattle.heap_big.specs.Runs.{IsFree, IsWellFormed, Adds};
 ghost use Rattle.heap_palloc.specs.Shown.{GainsOne};
 ghost use Rattle.heap_palloc.specs.Index.{rooms_of};
-ghost use Rattle.pm_model.specs.Places.{place_in};
-ghost use Rattle.pm_model.specs.Blocks.{Block};
+ghost use Rattle.image_layout.specs.Places.{place_in};
+ghost use Rattle.image_layout.specs.Blocks.{Block};
 ghost use Rattle.heap_palloc.specs.Lane.{is_big_place};
 ghost use Rattle.heap_palloc.specs.Calls.{MayCall, OwnsBlock, IsFreed};
 

@@ -3,13 +3,13 @@ ghost use Rattle.std.specs.Prelude.{Contains, IsTrue, ◌≡◌, ◌≢◌, ◌�
 ghost use Rattle.pm_model.specs.declared.action.Action.{Action};
 ghost use Rattle.pm_model.specs.Device.{Device, IsClean};
 ghost use Rattle.pm_model.specs.Plans.{Play, IsPlaying, IsPlan, IsCrashImageWithin, IsTakenBack, finished, footprint, plan_of};
-ghost use Rattle.pm_model.specs.Blocks.{Block, slot_words, bitmap_of, live_blocks};
+ghost use Rattle.image_layout.specs.Blocks.{Block, slot_words, bitmap_of, live_blocks};
 ghost use Rattle.heap_small.specs.Bitmap.{with_bit, without_bit};
 ghost use Rattle.heap_palloc.specs.Lane.{mended_lane};
 ghost use Rattle.heap_palloc.specs.Parts.{Allocation, allocation_parts, freeing_parts, new_page_allocation_parts, big_allocation_parts, small_freeing_parts};
 ghost use Rattle.heap_palloc.specs.Shown.{MayAllocate, MayFree, IsAtomic};
 ghost use Rattle.heap_palloc.specs.Law.{IsElsewhere, Slot, Shows, ChangesShown, Allocates, Frees, slot_allocation, taking, taken, MayTakeSlot, MayTakeNewSlot, MayFreeSlot, SameRead, Pages, pages_allocation, MayTakeRun, MayFreePages};
-ghost use Rattle.pm_model.specs.Fresh.{fresh_words};
+ghost use Rattle.image_layout.specs.Fresh.{fresh_words};
 ghost use Rattle.heap_palloc.specs.Calls.{KeepsHeapRules, OwnsBlock};
 ghost use Rattle.heap_palloc.specs.Choice.{Choice, choice_allocation, choice_parts, choice_page, choice_pages, choice_block, MayMake, Freed, freed_allocation, freed_parts, freed_page, freed_pages, freed_block, MayRelease};
 

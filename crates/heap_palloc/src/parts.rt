@@ -1,9 +1,9 @@
 // The parts of the plans of the heap, added to a plan.
 ghost use Rattle.std.specs.Prelude.{◌≡◌, ◌+◌, ◌*◌, ◌^◌, ◌<◌, ◌≤◌, ◌++◌, length};
 ghost use Rattle.std.specs.List.{range_with_len};
-ghost use Rattle.pm_model.specs.Pointer.{pointer_word};
+ghost use Rattle.image_layout.specs.Pointer.{pointer_word};
 ghost use Rattle.pm_model.specs.Plans.{part_actions, plan_of, one_store, unless_empty};
-ghost use Rattle.pm_model.specs.Fixed.{lane_at, lane_op_at};
+ghost use Rattle.image_layout.specs.Fixed.{lane_at, lane_op_at};
 ghost use Rattle.heap_palloc.specs.Lane.{mark_at};
 ghost use Rattle.heap_palloc.specs.Parts.{Allocation, lane_part, allocation_parts, freeing_parts, new_page_parts, free_page_parts, forget_given_back};
 

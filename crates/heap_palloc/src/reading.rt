@@ -1,8 +1,8 @@
 // The index from the words.
 ghost use Rattle.std.specs.Prelude.{◌≡◌, ◌+◌, ◌*◌, ◌<◌, ◌≤◌, ◌++◌, [], ◌∷◌, ℕ, if◌then◌else◌, filter, map, length, vec_len, vec_capacity, IfOk, IsTrue};
 ghost use Rattle.std.specs.List.{range_with_len};
-ghost use Rattle.pm_model.specs.Places.{below, page_count};
-ghost use Rattle.pm_model.specs.Blocks.{descriptor_of, says_small, inside_after, is_small_page};
+ghost use Rattle.image_layout.specs.Places.{below, page_count};
+ghost use Rattle.image_layout.specs.Blocks.{descriptor_of, says_small, inside_after, is_small_page};
 ghost use Rattle.heap_big.specs.Pages.{IsRising};
 ghost use Rattle.heap_palloc.specs.Index.{IsIndexOf, has_room, rooms_of, pages_with_room};
 

@@ -1,5 +1,5 @@
 ghost use Rattle.std.specs.Prelude.{◌≡◌, ℕ, ◌<◌, ◌≤◌, List, IfOk, length};
-ghost use Rattle.pm_model.specs.Blocks.{Block as LiveBlock};
+ghost use Rattle.image_layout.specs.Blocks.{Block as LiveBlock};
 ghost use Rattle.pm_model.specs.Device.{IsClean};
 ghost use Rattle.pm_model.specs.Plain.{device_of};
 ghost use Rattle.pm_model.specs.Plans.{Part, IsPlan, finished, plan_of};

@@ -5,13 +5,13 @@ use Rattle.std.specs.Option.{is_some}
 use Rattle.std.specs.List.{flat_map}
 use Rattle.std.proofs.lemmas.Bool.{le-leb, lt-leb, leb-true}
 use Rattle.std.proofs.lemmas.List.Folds.{flat_map-map}
-use Rattle.pm_model.specs.Places.{below}
-use Rattle.pm_model.specs.Records.{column_at, columns_at, created_header, ended_header, codes_header, dictionary_header}
-use Rattle.pm_model.specs.Arrays.{array_rule, chunk_count, chunk_pointer_at, is_chunk_pointer}
-use Rattle.pm_model.specs.Tables.{table_count, table_block, array_headers, column_headers, columns_of}
-use Rattle.pm_model.specs.Checks.{Check, check, Keeps, first_failing}
-use Rattle.pm_model.specs.EntryRules.{arrays_rule}
-use Rattle.pm_model.proofs.Faults.{first_failing-none, passes, fails}
+use Rattle.image_layout.specs.Places.{below}
+use Rattle.image_layout.specs.Records.{column_at, columns_at, created_header, ended_header, codes_header, dictionary_header}
+use Rattle.image_layout.specs.Arrays.{array_rule, chunk_count, chunk_pointer_at, is_chunk_pointer}
+use Rattle.image_layout.specs.Tables.{table_count, table_block, array_headers, column_headers, columns_of}
+use Rattle.image_layout.specs.Checks.{Check, check, Keeps, first_failing}
+use Rattle.image_layout.specs.EntryRules.{arrays_rule}
+use Rattle.image_layout.proofs.Faults.{first_failing-none, passes, fails}
 use Rattle.image_rules.proofs.Firsts.{flat_part, none-head, none-append, map_none, map_some, flat_none, flat_found, found_none, first_of, then_rest, then_last, flat_map-flat_map}
 
 module _ (words : List ℕ) where

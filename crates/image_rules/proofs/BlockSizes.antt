@@ -1,8 +1,8 @@
 -- The words of the block that so many words are given.
 use Rattle.std.proofs.Common.{◌≡◌, ℕ, ◌+◌, ◌*◌, ◌/◌, ◌<◌, ◌≤◌, leb, sym, ◌∙◌, ap}
 use Rattle.std.proofs.lemmas.Bool.{cond-true, cond-false, le-leb, lt-leb}
-use Rattle.pm_model.specs.Blocks.{slot_words, class_for, block_words}
-use Rattle.pm_model.proofs.SlotSizes.{least_is, least_low}
+use Rattle.image_layout.specs.Blocks.{slot_words, class_for, block_words}
+use Rattle.image_layout.proofs.SlotSizes.{least_is, least_low}
 use Rattle.heap_small.specs.Class.{IsLeastFor}
 
 pub small_size : (count class : ℕ) → count ≤ 256 → IsLeastFor count class → slot_words class ≡ block_words count

@@ -3,16 +3,16 @@ use Rattle.std.proofs.Common.{◌≡◌, ℕ, zero, suc, Bool, true, false, cond
 use Rattle.std.specs.Prelude.{Contains}
 use Rattle.std.specs.List.{flat_map}
 use Rattle.std.proofs.lemmas.List.{append-nil}
-use Rattle.pm_model.specs.Places.{below, place_in}
-use Rattle.pm_model.specs.Records.{codes_header, created_header, dictionary_header, ended_header, first_leaf_at, next_leaf_at, new_leaf_at, split_leaf_at}
-use Rattle.pm_model.specs.Blocks.{live_blocks}
-use Rattle.pm_model.specs.Arrays.{capacity, place_of}
-use Rattle.pm_model.specs.Tables.{table_count, table_block, table_blocks, columns_of, is_text}
-use Rattle.pm_model.specs.Trees.{leaves_from, stored_leaves, leaf_list, leaf_pairs, put_behind, is_about_to_link, used_pairs, Pair}
-use Rattle.pm_model.specs.Owners.{Owner, word_of, array_owners, column_owners, table_owner, table_owners, leaf_owner, text_owner, text_owners, link_places, dictionary_slots, object_owners, owner_words, owns_block}
-use Rattle.pm_model.specs.Checks.{check}
-use Rattle.pm_model.specs.SoundRules.{owner_rule, single_owner_rule, owned_rule, distinct_checks}
-use Rattle.pm_model.proofs.Members.{Contains-here, Contains-there, map-Contains, flat_map-Contains}
+use Rattle.image_layout.specs.Places.{below, place_in}
+use Rattle.image_layout.specs.Records.{codes_header, created_header, dictionary_header, ended_header, first_leaf_at, next_leaf_at, new_leaf_at, split_leaf_at}
+use Rattle.image_layout.specs.Blocks.{live_blocks}
+use Rattle.image_layout.specs.Arrays.{capacity, place_of}
+use Rattle.image_layout.specs.Tables.{table_count, table_block, table_blocks, columns_of, is_text}
+use Rattle.image_layout.specs.Trees.{leaves_from, stored_leaves, leaf_list, leaf_pairs, put_behind, is_about_to_link, used_pairs, Pair}
+use Rattle.image_layout.specs.Owners.{Owner, word_of, array_owners, column_owners, table_owner, table_owners, leaf_owner, text_owner, text_owners, link_places, dictionary_slots, object_owners, owner_words, owns_block}
+use Rattle.image_layout.specs.Checks.{check}
+use Rattle.image_layout.specs.SoundRules.{owner_rule, single_owner_rule, owned_rule, distinct_checks}
+use Rattle.image_layout.proofs.Members.{Contains-here, Contains-there, map-Contains, flat_map-Contains}
 use Rattle.image_rules.specs.BuiltOwners.{built_column_owners, built_table_owners, built_owner_words, built_owner_rule, built_single_owner_rule, built_owned_rule, owned_check, HasEmptyTrees}
 
 -- one function for another, at the members of a list

@@ -4,11 +4,11 @@ use Rattle.std.specs.Prelude.{Option, Some}
 use Rattle.std.specs.Option.{is_some}
 use Rattle.std.specs.List.{range_with_len, list_any}
 use Rattle.std.proofs.lemmas.Bool.{cases_eq, or_left, or_right, or_from, not_from_true, not_from_false}
-use Rattle.pm_model.specs.Records.{column_at, column_name_at, table_name_at}
-use Rattle.pm_model.specs.Tables.{table_count, table_block, columns_of}
-use Rattle.pm_model.specs.Checks.{Check, check, first_failing}
-use Rattle.pm_model.specs.SoundRules.{same_name, name_place_checks, table_name_checks, distinct_name_rule}
-use Rattle.pm_model.proofs.Faults.{passes, fails}
+use Rattle.image_layout.specs.Records.{column_at, column_name_at, table_name_at}
+use Rattle.image_layout.specs.Tables.{table_count, table_block, columns_of}
+use Rattle.image_layout.specs.Checks.{Check, check, first_failing}
+use Rattle.image_layout.specs.SoundRules.{same_name, name_place_checks, table_name_checks, distinct_name_rule}
+use Rattle.image_layout.proofs.Faults.{passes, fails}
 use Rattle.image_rules.specs.Parts.{before_of}
 use Rattle.image_rules.proofs.Firsts.{first_of, then_rest}
 

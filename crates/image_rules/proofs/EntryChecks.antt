@@ -5,13 +5,13 @@ use Rattle.std.specs.Option.{is_some}
 use Rattle.std.specs.List.{range_with_len, flat_map}
 use Rattle.std.proofs.lemmas.Option.{none-some}
 use Rattle.std.proofs.lemmas.Bool.{cases_Bool, false≢true, leb-true, eq-eqb, ne_eqb, or_from, or_left, or_right, and_from, and_left, and_right, and_parts, not_from_true, not_from_false, cond-true, cond-false}
-use Rattle.pm_model.specs.Fixed.{entry_at, state_at, ready_at}
-use Rattle.pm_model.specs.Places.{below, is_pointer_to}
-use Rattle.pm_model.specs.Records.{segment_entry_at}
-use Rattle.pm_model.specs.Objects.{is_open, ready_count, segment_pointer_at, segment_of, entry_places}
-use Rattle.pm_model.specs.Checks.{Check, check, Keeps, first_failing}
-use Rattle.pm_model.specs.EntryRules.{objects_rule, object_rule, entries_rule, entry_checks, is_entry, is_segment_pointer}
-use Rattle.pm_model.proofs.Faults.{first_failing-none, all_hold, passes, fails}
+use Rattle.image_layout.specs.Fixed.{entry_at, state_at, ready_at}
+use Rattle.image_layout.specs.Places.{below, is_pointer_to}
+use Rattle.image_layout.specs.Records.{segment_entry_at}
+use Rattle.image_layout.specs.Objects.{is_open, ready_count, segment_pointer_at, segment_of, entry_places}
+use Rattle.image_layout.specs.Checks.{Check, check, Keeps, first_failing}
+use Rattle.image_layout.specs.EntryRules.{objects_rule, object_rule, entries_rule, entry_checks, is_entry, is_segment_pointer}
+use Rattle.image_layout.proofs.Faults.{first_failing-none, all_hold, passes, fails}
 use Rattle.image_rules.specs.Parts.{segment_checks}
 use Rattle.image_rules.proofs.Firsts.{map_holds, map-range, none-append, none-head, flat_none, flat_part, flat_found, found_none, flat_map-filter}
 

@@ -3,10 +3,10 @@ use Rattle.std.proofs.Common.{◌≡◌, ◌≢◌, ⊎_elim, ℕ, zero, suc, �
 use Rattle.std.specs.Prelude.{None, Some, option_map, filter, find}
 use Rattle.std.specs.List.{range_with_len}
 use Rattle.std.proofs.lemmas.Bool.{cases_Bool, cases_eq, eqb-true, eqb-false, cond-true, cond-false}
-use Rattle.pm_model.specs.Fixed.{descriptor_at}
-use Rattle.pm_model.specs.Places.{below}
-use Rattle.pm_model.specs.Blocks.{inside_after, inside_at}
-use Rattle.pm_model.specs.Checks.{Check, check, first_failing}
+use Rattle.image_layout.specs.Fixed.{descriptor_at}
+use Rattle.image_layout.specs.Places.{below}
+use Rattle.image_layout.specs.Blocks.{inside_after, inside_at}
+use Rattle.image_layout.specs.Checks.{Check, check, first_failing}
 
 module _ (at : ℕ → ℕ) (holds speaks : ℕ → Bool) where
   abbrev check_of : ℕ → Check

@@ -9,9 +9,9 @@ use Rattle.std.proofs.lemmas.List.{map-append}
 use Rattle.std.proofs.lemmas.Option.{none-some}
 use Rattle.std.proofs.lemmas.List.Concat.{flat_map_single, flat_map-append}
 use Rattle.std.proofs.lemmas.List.FromFn.{length-map-range_with_len, get_or-map-range_with_len}
-use Rattle.pm_model.specs.Places.{below}
-use Rattle.pm_model.specs.Checks.{Check, check, Rule, Keeps, first_failing}
-use Rattle.pm_model.proofs.Faults.{Holds, all_hold, passes, fails, pass-all, fail-first}
+use Rattle.image_layout.specs.Places.{below}
+use Rattle.image_layout.specs.Checks.{Check, check, Rule, Keeps, first_failing}
+use Rattle.image_layout.proofs.Faults.{Holds, all_hold, passes, fails, pass-all, fail-first}
 
 -- a check alone
 pub lone : (place : ℕ) (holds : Bool) → then_some (not holds) place ≡ first_failing (check place holds ∷ [])

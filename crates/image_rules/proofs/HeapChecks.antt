@@ -2,11 +2,11 @@
 use Rattle.std.proofs.Common.{◌≡◌, ◌≢◌, ℕ, ◌+◌, ◌-◌, ◌*◌, ◌/◌, ◌%◌, ◌^◌, ◌<◌, Bool, true, false, not, ◌&&◌, cond, ltb, eqb, List, get_or, sym, ◌∙◌, ap, arith}
 use Rattle.std.specs.Prelude.{None, Some}
 use Rattle.std.proofs.lemmas.Bool.{eq-eqb, ne_eqb, lt-ltb, and_parts, and_from, not-true, not_from_false}
-use Rattle.pm_model.specs.Fixed.{descriptor_at}
-use Rattle.pm_model.specs.Places.{page_at, page_count}
-use Rattle.pm_model.specs.Blocks.{slots_of, descriptor_of, says_small, inside_after, inside_at, is_inside, is_small_page, is_reserved, class_of, bitmap_of}
-use Rattle.pm_model.specs.Checks.{first_failing}
-use Rattle.pm_model.specs.HeapRules.{reserved_rule, descriptor_rule, bitmap_rule, is_descriptor}
+use Rattle.image_layout.specs.Fixed.{descriptor_at}
+use Rattle.image_layout.specs.Places.{page_at, page_count}
+use Rattle.image_layout.specs.Blocks.{slots_of, descriptor_of, says_small, inside_after, inside_at, is_inside, is_small_page, is_reserved, class_of, bitmap_of}
+use Rattle.image_layout.specs.Checks.{first_failing}
+use Rattle.image_layout.specs.HeapRules.{reserved_rule, descriptor_rule, bitmap_rule, is_descriptor}
 use Rattle.image_rules.proofs.Faults.{first_none, first_some, each_more, inside-next}
 
 -- ── whether a page stands inside a big block ──

@@ -1,10 +1,10 @@
 -- The first lane that isn't sound.
 use Rattle.std.proofs.Common.{◌≡◌, ℕ, ◌+◌, ◌<◌, true, false, List, map, refl, sym, ◌∙◌, ap}
 use Rattle.std.specs.Prelude.{None, Some, filter}
-use Rattle.pm_model.specs.Fixed.{lane_op_at}
-use Rattle.pm_model.specs.Places.{below}
-use Rattle.pm_model.specs.Checks.{check, first_failing}
-use Rattle.pm_model.specs.HeapRules.{lane_rule, is_lane}
+use Rattle.image_layout.specs.Fixed.{lane_op_at}
+use Rattle.image_layout.specs.Places.{below}
+use Rattle.image_layout.specs.Checks.{check, first_failing}
+use Rattle.image_layout.specs.HeapRules.{lane_rule, is_lane}
 use Rattle.image_rules.proofs.Faults.{first_none, first_some, each_more, filter-all}
 
 module _ (words : List ℕ) where

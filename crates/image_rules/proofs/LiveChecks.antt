@@ -7,10 +7,10 @@ use Rattle.std.proofs.Math.Nat.{mul-div_cancel}
 use Rattle.std.proofs.Math.Pow.{pow_mono}
 use Rattle.std.proofs.lemmas.Bool.{false≢true, both_ways, false_from_ne_true, or_cases, and_parts, and_from, not_from_false, eq-eqb, eqb-true, lt-ltb, ltb-true, cond-true}
 use Rattle.std.proofs.lemmas.List.Folds.{list_any_at}
-use Rattle.pm_model.specs.Places.{below, page_count}
-use Rattle.pm_model.specs.Blocks.{Block, slot_words, slots_of, descriptor_of, says_small, says_big, is_inside, is_small_page, class_of, bitmap_of, small_block, big_block, used_slots, blocks_of_page, live_blocks, is_live}
-use Rattle.pm_model.proofs.Heap.{IsSmallOf, IsBigOf, page_of_block, small_class, big_pages, slot_fits, big_live}
-use Rattle.pm_model.proofs.Members.{Contains-here, Contains-there, below-Contains, flat_map-Contains, map-Contains, filter-Contains}
+use Rattle.image_layout.specs.Places.{below, page_count}
+use Rattle.image_layout.specs.Blocks.{Block, slot_words, slots_of, descriptor_of, says_small, says_big, is_inside, is_small_page, class_of, bitmap_of, small_block, big_block, used_slots, blocks_of_page, live_blocks, is_live}
+use Rattle.image_layout.proofs.Heap.{IsSmallOf, IsBigOf, page_of_block, small_class, big_pages, slot_fits, big_live}
+use Rattle.image_layout.proofs.Members.{Contains-here, Contains-there, below-Contains, flat_map-Contains, map-Contains, filter-Contains}
 use Rattle.image_rules.specs.BuiltOwners.{is_slot_block, is_head_block}
 
 same_truth : (a b : Bool) → (a ≡ true → b ≡ true) → (b ≡ true → a ≡ true) → a ≡ b

@@ -5,12 +5,12 @@ use Rattle.std.specs.Option.{is_some}
 use Rattle.std.specs.List.{flat_map}
 use Rattle.std.proofs.lemmas.Bool.{ne_eqb, eq-eqb, or_from, or_left, or_right}
 use Rattle.std.proofs.lemmas.List.Folds.{flat_map-map}
-use Rattle.pm_model.specs.Places.{below}
-use Rattle.pm_model.specs.Records.{column_at, columns_at, column_name_at, table_name_at}
-use Rattle.pm_model.specs.Tables.{table_count, table_block, columns_of}
-use Rattle.pm_model.specs.Checks.{Check, check, first_failing}
-use Rattle.pm_model.specs.EntryRules.{name_rule, name_checks, kind_check, is_padded_name_byte}
-use Rattle.pm_model.proofs.Faults.{passes, fails}
+use Rattle.image_layout.specs.Places.{below}
+use Rattle.image_layout.specs.Records.{column_at, columns_at, column_name_at, table_name_at}
+use Rattle.image_layout.specs.Tables.{table_count, table_block, columns_of}
+use Rattle.image_layout.specs.Checks.{Check, check, first_failing}
+use Rattle.image_layout.specs.EntryRules.{name_rule, name_checks, kind_check, is_padded_name_byte}
+use Rattle.image_layout.proofs.Faults.{passes, fails}
 use Rattle.image_rules.specs.Parts.{column_name_checks, table_name_checks}
 use Rattle.image_rules.proofs.Firsts.{map_none, map_some, flat_none, flat_found, found_none, first_of, then_rest}
 

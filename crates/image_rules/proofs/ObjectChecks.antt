@@ -7,12 +7,12 @@ use Rattle.std.specs.List.{list_any}
 use Rattle.std.proofs.lemmas.Bool.{and_from, and_right, not_from_true, not_from_false, le-leb, lt-leb, true_from_ne_false, false≢true}
 use Rattle.std.proofs.lemmas.List.{take_more_set}
 use Rattle.std.proofs.lemmas.List.FromFn.{map-range_with_len_more}
-use Rattle.pm_model.specs.Fixed.{state_at, commit_word_at, ready_at, last_at}
-use Rattle.pm_model.specs.Places.{below, place_in, is_pointer_to, is_null_or_pointer_to}
-use Rattle.pm_model.specs.Objects.{segment_pointer_at, segment_of, ready_count}
-use Rattle.pm_model.specs.Checks.{Check, check, first_failing}
-use Rattle.pm_model.specs.EntryRules.{is_segment_pointer, is_among, object_rule, objects_rule}
-use Rattle.pm_model.proofs.Faults.{passes, fails, pass-all, fail-first}
+use Rattle.image_layout.specs.Fixed.{state_at, commit_word_at, ready_at, last_at}
+use Rattle.image_layout.specs.Places.{below, place_in, is_pointer_to, is_null_or_pointer_to}
+use Rattle.image_layout.specs.Objects.{segment_pointer_at, segment_of, ready_count}
+use Rattle.image_layout.specs.Checks.{Check, check, first_failing}
+use Rattle.image_layout.specs.EntryRules.{is_segment_pointer, is_among, object_rule, objects_rule}
+use Rattle.image_layout.proofs.Faults.{passes, fails, pass-all, fail-first}
 use Rattle.image_rules.specs.Parts.{segment_checks}
 use Rattle.image_rules.proofs.Firsts.{lone, map_none, map_some, flat_none, flat_found}
 

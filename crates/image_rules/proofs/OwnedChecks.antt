@@ -9,11 +9,11 @@ use Rattle.std.specs.BTreeSet.{BTreeSet, Updates, contains}
 use Rattle.std.proofs.lemmas.Bool.{and_from, and_left, and_right, not_from_false, not_from_true, cond-true, cond-false}
 use Rattle.std.proofs.lemmas.List.{map-append, take_more, take_all}
 use Rattle.std.proofs.lemmas.Simd.{map-map}
-use Rattle.pm_model.specs.Pointer.{pointer_word}
-use Rattle.pm_model.specs.Places.{below, page_count}
-use Rattle.pm_model.specs.Blocks.{Block, slot_words, slots_of, slot_at, descriptor_of, says_small, says_big, is_inside, is_small_page, is_big_head, class_of, bitmap_of, big_block, blocks_of_page, live_blocks}
-use Rattle.pm_model.specs.Owners.{word_of}
-use Rattle.pm_model.specs.Checks.{Check, check, first_failing}
+use Rattle.image_layout.specs.Pointer.{pointer_word}
+use Rattle.image_layout.specs.Places.{below, page_count}
+use Rattle.image_layout.specs.Blocks.{Block, slot_words, slots_of, slot_at, descriptor_of, says_small, says_big, is_inside, is_small_page, is_big_head, class_of, bitmap_of, big_block, blocks_of_page, live_blocks}
+use Rattle.image_layout.specs.Owners.{word_of}
+use Rattle.image_layout.specs.Checks.{Check, check, first_failing}
 use Rattle.image_rules.specs.declared.owner_words.OwnerWord.{OwnerWord}
 use Rattle.image_rules.specs.BuiltOwners.{as_read, built_owner_words, built_owned_rule, owned_check, kept_check, slot_blocks, HasWords}
 use Rattle.image_rules.proofs.Firsts.{flat_none, flat_found, found_none}

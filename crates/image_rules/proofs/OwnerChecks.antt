@@ -8,13 +8,13 @@ use Rattle.std.proofs.lemmas.Bool.{cases_eq, eq-eqb, ne_eqb}
 use Rattle.std.proofs.lemmas.List.{drop_more, drop_all, get_or-map, length-map}
 use Rattle.std.proofs.lemmas.List.Folds.{list_any-append}
 use Rattle.std.proofs.lemmas.Grind.{common_steps}
-use Rattle.pm_model.specs.Places.{is_pointer, place_in}
-use Rattle.pm_model.specs.Blocks.{is_live}
-use Rattle.pm_model.specs.Owners.{Owner, word_of, owns_block}
-use Rattle.pm_model.specs.Checks.{Check, check, first_failing}
-use Rattle.pm_model.specs.EntryRules.{is_among}
-use Rattle.pm_model.specs.SoundRules.{distinct_checks}
-use Rattle.pm_model.proofs.Faults.{passes, fails}
+use Rattle.image_layout.specs.Places.{is_pointer, place_in}
+use Rattle.image_layout.specs.Blocks.{is_live}
+use Rattle.image_layout.specs.Owners.{Owner, word_of, owns_block}
+use Rattle.image_layout.specs.Checks.{Check, check, first_failing}
+use Rattle.image_layout.specs.EntryRules.{is_among}
+use Rattle.image_layout.specs.SoundRules.{distinct_checks}
+use Rattle.image_layout.proofs.Faults.{passes, fails}
 use Rattle.image_rules.specs.declared.owner_words.OwnerWord.{OwnerWord}
 use Rattle.image_rules.specs.BuiltOwners.{as_read, built_owner_words, built_owner_rule, built_single_owner_rule, HasWords}
 

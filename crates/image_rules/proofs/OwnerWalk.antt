@@ -8,12 +8,12 @@ use Rattle.std.proofs.lemmas.List.Elements.{filter-append}
 use Rattle.std.proofs.lemmas.List.Concat.{flat_map-append}
 use Rattle.std.proofs.lemmas.List.Folds.{flat_map-map}
 use Rattle.std.proofs.lemmas.List.FromFn.{map-range_with_len_more}
-use Rattle.pm_model.specs.Fixed.{table_slot_at}
-use Rattle.pm_model.specs.Places.{below}
-use Rattle.pm_model.specs.Records.{column_at, columns_at, table_words, created_header, ended_header}
-use Rattle.pm_model.specs.Tables.{table_block, table_count}
-use Rattle.pm_model.specs.Owners.{Owner, owner_of, names_one, array_owners, object_owners}
-use Rattle.pm_model.proofs.Ranges.{below_more}
+use Rattle.image_layout.specs.Fixed.{table_slot_at}
+use Rattle.image_layout.specs.Places.{below}
+use Rattle.image_layout.specs.Records.{column_at, columns_at, table_words, created_header, ended_header}
+use Rattle.image_layout.specs.Tables.{table_block, table_count}
+use Rattle.image_layout.specs.Owners.{Owner, owner_of, names_one, array_owners, object_owners}
+use Rattle.image_layout.proofs.Ranges.{below_more}
 use Rattle.image_rules.specs.declared.owner_words.OwnerWord.{OwnerWord}
 use Rattle.image_rules.specs.BuiltOwners.{as_read, built_column_owners, built_block_owners, built_table_owners, built_owner_words}
 

@@ -7,15 +7,15 @@ use Rattle.std.specs.List.{range_with_len, flat_map}
 use Rattle.std.proofs.lemmas.Bool.{cases_eq, eq-eqb, ne_eqb, lt-ltb, le-ltb, cond-true, cond-false, and_from, and_left, and_right, not_from_true, not_from_false}
 use Rattle.std.proofs.lemmas.List.{map-append}
 use Rattle.std.proofs.lemmas.List.Folds.{flat_map-map}
-use Rattle.pm_model.specs.Fixed.{lane_op_at, state_at, commit_word_at, entry_at, table_slot_at, descriptor_at}
-use Rattle.pm_model.specs.Places.{below, page_at, page_count}
-use Rattle.pm_model.specs.Records.{segment_entry_at}
-use Rattle.pm_model.specs.Blocks.{inside_at, is_given_back, descriptor_of}
-use Rattle.pm_model.specs.Tables.{table_count}
-use Rattle.pm_model.specs.Objects.{ready_count, segment_of, ready_segments, entry_places}
-use Rattle.pm_model.specs.Checks.{Check, first_failing}
-use Rattle.pm_model.specs.SoundRules.{zero_check, idle_rule, closed_rule, given_back_rule}
-use Rattle.pm_model.proofs.Faults.{passes, fails}
+use Rattle.image_layout.specs.Fixed.{lane_op_at, state_at, commit_word_at, entry_at, table_slot_at, descriptor_at}
+use Rattle.image_layout.specs.Places.{below, page_at, page_count}
+use Rattle.image_layout.specs.Records.{segment_entry_at}
+use Rattle.image_layout.specs.Blocks.{inside_at, is_given_back, descriptor_of}
+use Rattle.image_layout.specs.Tables.{table_count}
+use Rattle.image_layout.specs.Objects.{ready_count, segment_of, ready_segments, entry_places}
+use Rattle.image_layout.specs.Checks.{Check, first_failing}
+use Rattle.image_layout.specs.SoundRules.{zero_check, idle_rule, closed_rule, given_back_rule}
+use Rattle.image_layout.proofs.Faults.{passes, fails}
 use Rattle.image_rules.specs.Parts.{next_slot_rule, object_zeros}
 use Rattle.image_rules.proofs.Firsts.{lone, map_none, map_some, map_none_from, map_some_from, flat_none, flat_found, found_none, first_of, then_rest, flat_map-filter, map-flat_map, map-range}
 use Rattle.image_rules.proofs.HeapChecks.{outside, within}

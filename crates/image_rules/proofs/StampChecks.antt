@@ -6,16 +6,16 @@ use Rattle.std.specs.List.{flat_map, list_all, range_with_len}
 use Rattle.std.proofs.lemmas.Bool.{and_parts, cases_lt, both_ways, ltb-true, lt-ltb, le-ltb, le-leb, lt-leb, leb-true, cond-true, cond-false}
 use Rattle.std.proofs.lemmas.List.Concat.{flat_map-append}
 use Rattle.std.proofs.lemmas.List.Folds.{flat_map-map, list_all-map}
-use Rattle.pm_model.specs.Places.{below, place_in, is_pointer_to}
-use Rattle.pm_model.specs.Records.{codes_header, column_at, columns_at, created_header, ended_header, high_at}
-use Rattle.pm_model.specs.Arrays.{array_rule, capacity, capacity_of, chunk_of, chunk_pointer_at, chunk_words, place_of}
-use Rattle.pm_model.specs.Tables.{table_count, table_block, columns_of}
-use Rattle.pm_model.specs.Checks.{Check, check, Keeps, first_failing}
-use Rattle.pm_model.specs.SoundRules.{is_created, is_ended, row_checks, row_headers, stamp_checks, stamp_rule}
+use Rattle.image_layout.specs.Places.{below, place_in, is_pointer_to}
+use Rattle.image_layout.specs.Records.{codes_header, column_at, columns_at, created_header, ended_header, high_at}
+use Rattle.image_layout.specs.Arrays.{array_rule, capacity, capacity_of, chunk_of, chunk_pointer_at, chunk_words, place_of}
+use Rattle.image_layout.specs.Tables.{table_count, table_block, columns_of}
+use Rattle.image_layout.specs.Checks.{Check, check, Keeps, first_failing}
+use Rattle.image_layout.specs.SoundRules.{is_created, is_ended, row_checks, row_headers, stamp_checks, stamp_rule}
 use Rattle.image_rules.specs.Stamps.{chunk_place, place_checks}
-use Rattle.pm_model.proofs.ChunkSizes.{capacity_next, capacity-rises, chunk_is}
-use Rattle.pm_model.proofs.Faults.{passes, fails}
-use Rattle.pm_model.proofs.Ranges.{range_append, below_more}
+use Rattle.image_layout.proofs.ChunkSizes.{capacity_next, capacity-rises, chunk_is}
+use Rattle.image_layout.proofs.Faults.{passes, fails}
+use Rattle.image_layout.proofs.Ranges.{range_append, below_more}
 use Rattle.image_rules.proofs.TableArrays.{array_kept}
 use Rattle.image_rules.proofs.Firsts.{flat_none, flat_found, found_none, map-range}
 

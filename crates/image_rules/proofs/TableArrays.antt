@@ -4,13 +4,13 @@ use Rattle.std.specs.Prelude.{None}
 use Rattle.std.specs.List.{flat_map}
 use Rattle.std.proofs.lemmas.Bool.{leb-true, lt-ltb, cond-true}
 use Rattle.std.proofs.lemmas.List.Folds.{flat_map-map}
-use Rattle.pm_model.specs.Places.{below, is_pointer_to}
-use Rattle.pm_model.specs.Records.{column_at, columns_at, created_header, ended_header, codes_header}
-use Rattle.pm_model.specs.Arrays.{array_rule, chunk_pointer_at, chunk_words, is_chunk_pointer}
-use Rattle.pm_model.specs.Tables.{table_count, table_block, column_headers, columns_of}
-use Rattle.pm_model.specs.Checks.{Check, check, Keeps, first_failing}
-use Rattle.pm_model.specs.EntryRules.{arrays_rule}
-use Rattle.pm_model.proofs.Faults.{all_hold, first_failing-none}
+use Rattle.image_layout.specs.Places.{below, is_pointer_to}
+use Rattle.image_layout.specs.Records.{column_at, columns_at, created_header, ended_header, codes_header}
+use Rattle.image_layout.specs.Arrays.{array_rule, chunk_pointer_at, chunk_words, is_chunk_pointer}
+use Rattle.image_layout.specs.Tables.{table_count, table_block, column_headers, columns_of}
+use Rattle.image_layout.specs.Checks.{Check, check, Keeps, first_failing}
+use Rattle.image_layout.specs.EntryRules.{arrays_rule}
+use Rattle.image_layout.proofs.Faults.{all_hold, first_failing-none}
 use Rattle.image_rules.specs.Parts.{table_arrays_rule}
 use Rattle.image_rules.proofs.ArrayChecks.{table_kept}
 use Rattle.image_rules.proofs.Firsts.{flat_part, none-head, none-append, map_holds, flat_map-flat_map}

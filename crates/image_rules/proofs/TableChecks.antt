@@ -2,11 +2,11 @@
 use Rattle.std.proofs.Common.{◌≡◌, ℕ, ◌%◌, ◌<◌, Bool, true, false, List, length, refl, sym, ◌∙◌, ap}
 use Rattle.std.specs.Prelude.{◌↔◌, Option, None, Some, IsNone, IsSome}
 use Rattle.std.proofs.lemmas.Bool.{both_ways}
-use Rattle.pm_model.specs.Fixed.{table_slot_at}
-use Rattle.pm_model.specs.Places.{place_in}
-use Rattle.pm_model.specs.Checks.{Check, check, first_failing}
-use Rattle.pm_model.specs.EntryRules.{is_table_slot, is_table_pointer, table_slot_rule}
-use Rattle.pm_model.proofs.TableSlots.{pointer_parts, table_in_image}
+use Rattle.image_layout.specs.Fixed.{table_slot_at}
+use Rattle.image_layout.specs.Places.{place_in}
+use Rattle.image_layout.specs.Checks.{Check, check, first_failing}
+use Rattle.image_layout.specs.EntryRules.{is_table_slot, is_table_pointer, table_slot_rule}
+use Rattle.image_layout.proofs.TableSlots.{pointer_parts, table_in_image}
 use Rattle.image_rules.specs.Parts.{IsTableBlock}
 use Rattle.image_rules.proofs.Firsts.{map_none, map_some}
 

@@ -6,15 +6,15 @@ use Rattle.std.specs.List.{flat_map}
 use Rattle.std.specs.Int.{bit_at}
 use Rattle.std.specs.Ordering.{nat_cmp}
 use Rattle.std.specs.BTreeSet.{BTreeSet, contains}
-use Rattle.pm_model.specs.Pointer.{pointer_word}
-use Rattle.pm_model.specs.Places.{below}
-use Rattle.pm_model.specs.Records.{codes_header, created_header, dictionary_header, ended_header, first_leaf_at}
-use Rattle.pm_model.specs.Blocks.{Block, slot_words, slots_of, slot_at, says_big, live_blocks}
-use Rattle.pm_model.specs.Tables.{table_count, table_block, columns_of, all_columns}
-use Rattle.pm_model.specs.Owners.{Owner, word_of, array_owners, table_owner, object_owners, owns_block}
-use Rattle.pm_model.specs.Checks.{Check, check, Rule}
-use Rattle.pm_model.specs.EntryRules.{is_among}
-use Rattle.pm_model.specs.SoundRules.{distinct_checks}
+use Rattle.image_layout.specs.Pointer.{pointer_word}
+use Rattle.image_layout.specs.Places.{below}
+use Rattle.image_layout.specs.Records.{codes_header, created_header, dictionary_header, ended_header, first_leaf_at}
+use Rattle.image_layout.specs.Blocks.{Block, slot_words, slots_of, slot_at, says_big, live_blocks}
+use Rattle.image_layout.specs.Tables.{table_count, table_block, columns_of, all_columns}
+use Rattle.image_layout.specs.Owners.{Owner, word_of, array_owners, table_owner, object_owners, owns_block}
+use Rattle.image_layout.specs.Checks.{Check, check, Rule}
+use Rattle.image_layout.specs.EntryRules.{is_among}
+use Rattle.image_layout.specs.SoundRules.{distinct_checks}
 use Rattle.image_rules.specs.declared.owner_words.OwnerWord.{OwnerWord}
 
 abbrev pub built_column_owners : List ℕ → ℕ → List Owner

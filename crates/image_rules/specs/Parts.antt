@@ -1,16 +1,16 @@
 -- Parts of the rules, which a function of their own tries.
 use Rattle.std.specs.Prelude.{ℕ, zero, suc, ◌+◌, ◌≤◌, List, [], ◌∷◌, ◌++◌, map, length, slice_index}
 use Rattle.std.specs.List.{flat_map}
-use Rattle.pm_model.specs.Fixed.{commit_word_at, state_at}
-use Rattle.pm_model.specs.Places.{below, is_null_or_pointer_to}
-use Rattle.pm_model.specs.Records.{column_name_at, columns_at, table_name_at, table_words}
-use Rattle.pm_model.specs.Objects.{entry_places, segment_pointer_at}
-use Rattle.pm_model.specs.Arrays.{array_rule}
-use Rattle.pm_model.specs.Tables.{array_headers, columns_of}
-use Rattle.pm_model.specs.Checks.{Check, Rule, check}
-use Rattle.pm_model.specs.EntryRules.{is_segment_pointer, kind_check, name_checks}
-use Rattle.pm_model.specs.SoundRules.{zero_check}
-use Rattle.pm_model.specs.Owners.{next_table_slots}
+use Rattle.image_layout.specs.Fixed.{commit_word_at, state_at}
+use Rattle.image_layout.specs.Places.{below, is_null_or_pointer_to}
+use Rattle.image_layout.specs.Records.{column_name_at, columns_at, table_name_at, table_words}
+use Rattle.image_layout.specs.Objects.{entry_places, segment_pointer_at}
+use Rattle.image_layout.specs.Arrays.{array_rule}
+use Rattle.image_layout.specs.Tables.{array_headers, columns_of}
+use Rattle.image_layout.specs.Checks.{Check, Rule, check}
+use Rattle.image_layout.specs.EntryRules.{is_segment_pointer, kind_check, name_checks}
+use Rattle.image_layout.specs.SoundRules.{zero_check}
+use Rattle.image_layout.specs.Owners.{next_table_slots}
 
 -- the pointers to the first segments of an object, so many of them, and the one after them
 abbrev pub segment_checks : List ℕ → ℕ → ℕ → List Check

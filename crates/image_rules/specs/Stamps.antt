@@ -1,9 +1,9 @@
 -- The checks of stamps by the places where they stand.
 use Rattle.std.specs.Prelude.{ℕ, Bool, nat_lt, if◌then◌else◌, Option, None, Some, List, [], ◌∷◌, ◌++◌, slice_index}
-use Rattle.pm_model.specs.Places.{place_in}
-use Rattle.pm_model.specs.Arrays.{chunk_count, chunk_pointer_at}
-use Rattle.pm_model.specs.Checks.{Check, check}
-use Rattle.pm_model.specs.SoundRules.{is_created, is_ended}
+use Rattle.image_layout.specs.Places.{place_in}
+use Rattle.image_layout.specs.Arrays.{chunk_count, chunk_pointer_at}
+use Rattle.image_layout.specs.Checks.{Check, check}
+use Rattle.image_layout.specs.SoundRules.{is_created, is_ended}
 
 -- where a chunk of an array begins, if it is published
 abbrev pub chunk_place : List ℕ → ℕ → ℕ → Option ℕ

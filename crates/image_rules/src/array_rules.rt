@@ -1,10 +1,10 @@
 // The rule of arrays.
 ghost use Rattle.std.specs.Prelude.{◌≡◌, ◌+◌, ◌%◌, ◌<◌, ◌≤◌, length, slice_index};
 ghost use Rattle.std.specs.List.{flat_map};
-ghost use Rattle.pm_model.specs.Arrays.{array_rule, is_chunk_pointer as chunk_pointer_holds, capacity as capacity_at};
-ghost use Rattle.pm_model.specs.Tables.{column_headers};
-ghost use Rattle.pm_model.specs.Checks.{Keeps, first_failing};
-ghost use Rattle.pm_model.specs.EntryRules.{arrays_rule, table_count_rule, table_slot_rule};
+ghost use Rattle.image_layout.specs.Arrays.{array_rule, is_chunk_pointer as chunk_pointer_holds, capacity as capacity_at};
+ghost use Rattle.image_layout.specs.Tables.{column_headers};
+ghost use Rattle.image_layout.specs.Checks.{Keeps, first_failing};
+ghost use Rattle.image_layout.specs.EntryRules.{arrays_rule, table_count_rule, table_slot_rule};
 ghost use Rattle.image_rules.specs.Parts.{IsTableBlock, table_arrays_rule};
 
 use crate::pointers::{is_null_or_words, pointed_words};

@@ -1,11 +1,11 @@
 // The rule that names differ.
 ghost use Rattle.std.specs.Prelude.{◌≡◌, ◌+◌, ◌%◌, ◌<◌, ◌≤◌, [], map, length, slice_index};
 ghost use Rattle.std.specs.List.{list_any};
-ghost use Rattle.pm_model.specs.Records.{column_at, column_name_at, columns_at, table_name_at};
-ghost use Rattle.pm_model.specs.Tables as tables;
-ghost use Rattle.pm_model.specs.Checks.{Keeps, first_failing};
-ghost use Rattle.pm_model.specs.EntryRules.{table_count_rule, table_slot_rule};
-ghost use Rattle.pm_model.specs.SoundRules.{same_name as names_are_one, name_place_checks, distinct_name_rule};
+ghost use Rattle.image_layout.specs.Records.{column_at, column_name_at, columns_at, table_name_at};
+ghost use Rattle.image_layout.specs.Tables as tables;
+ghost use Rattle.image_layout.specs.Checks.{Keeps, first_failing};
+ghost use Rattle.image_layout.specs.EntryRules.{table_count_rule, table_slot_rule};
+ghost use Rattle.image_layout.specs.SoundRules.{same_name as names_are_one, name_place_checks, distinct_name_rule};
 ghost use Rattle.image_rules.specs.Parts.{IsTableBlock, before_of};
 
 use crate::table_rules::{columns_of, published_tables, table_block};

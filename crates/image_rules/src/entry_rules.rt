@@ -1,10 +1,10 @@
 // The rule of the entries of open transactions, and the walk over an object's segments.
 ghost use Rattle.std.specs.Prelude.{◌≡◌, ◌+◌, ◌%◌, ◌<◌, ◌≤◌, length};
 ghost use Rattle.std.specs.List.{range_with_len};
-ghost use Rattle.pm_model.specs.Tables as tables;
-ghost use Rattle.pm_model.specs.Objects.{ready_count as ready_of, segment_pointer_at, segment_of, entry_places};
-ghost use Rattle.pm_model.specs.Checks.{Keeps, first_failing};
-ghost use Rattle.pm_model.specs.EntryRules.{table_count_rule, table_slot_rule, arrays_rule, objects_rule, entries_rule, entry_checks, is_entry as entry_holds, stamped_capacity as stamped_rows};
+ghost use Rattle.image_layout.specs.Tables as tables;
+ghost use Rattle.image_layout.specs.Objects.{ready_count as ready_of, segment_pointer_at, segment_of, entry_places};
+ghost use Rattle.image_layout.specs.Checks.{Keeps, first_failing};
+ghost use Rattle.image_layout.specs.EntryRules.{table_count_rule, table_slot_rule, arrays_rule, objects_rule, entries_rule, entry_checks, is_entry as entry_holds, stamped_capacity as stamped_rows};
 
 use crate::array_rules::capacity;
 use crate::layout::OPEN;

@@ -1,7 +1,7 @@
 // The rules of the first words.
 ghost use Rattle.std.specs.Prelude.{◌≡◌, ◌≤◌, length};
-ghost use Rattle.pm_model.specs.Checks.{first_failing};
-ghost use Rattle.pm_model.specs.EntryRules.{magic_rule, version_rule, last_rule};
+ghost use Rattle.image_layout.specs.Checks.{first_failing};
+ghost use Rattle.image_layout.specs.EntryRules.{magic_rule, version_rule, last_rule};
 
 use crate::layout::MAX_COMMITS;
 use pm_model::{MAGIC, VERSION, last_commit, magic, version};

@@ -1,9 +1,9 @@
 // The rules of descriptors and bitmaps, each in one pass over the pages.
 ghost use Rattle.std.specs.Prelude.{◌≡◌, ◌+◌, ◌*◌, ◌/◌, ◌%◌, ◌<◌, ◌≤◌, ◌==◌, ◌-◌, ◌^◌, nat_lt, IsTrue, if◌then◌else◌, length, slice_index};
-ghost use Rattle.pm_model.specs.Fixed.{descriptor_at};
-ghost use Rattle.pm_model.specs.Blocks.{inside_after, slots_of, is_reserved as reserved_page, says_small as small_descriptor, is_inside as page_is_inside, is_small_page as page_is_small};
-ghost use Rattle.pm_model.specs.Checks.{first_failing};
-ghost use Rattle.pm_model.specs.HeapRules.{reserved_rule, descriptor_rule, bitmap_rule, is_descriptor as known_descriptor};
+ghost use Rattle.image_layout.specs.Fixed.{descriptor_at};
+ghost use Rattle.image_layout.specs.Blocks.{inside_after, slots_of, is_reserved as reserved_page, says_small as small_descriptor, is_inside as page_is_inside, is_small_page as page_is_small};
+ghost use Rattle.image_layout.specs.Checks.{first_failing};
+ghost use Rattle.image_layout.specs.HeapRules.{reserved_rule, descriptor_rule, bitmap_rule, is_descriptor as known_descriptor};
 
 use crate::layout::{BIG_HEAD, FIXED_PAGES, LAST_BIG_HEAD, LAST_SMALL_PAGE, SMALL_PAGE};
 use heap_small::{Class, slots};

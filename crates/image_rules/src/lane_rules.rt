@@ -1,7 +1,7 @@
 // The rule of lanes.
 ghost use Rattle.std.specs.Prelude.{◌≡◌, ◌<◌, ◌≤◌, length};
-ghost use Rattle.pm_model.specs.Checks.{first_failing};
-ghost use Rattle.pm_model.specs.HeapRules.{lane_rule, is_lane as lane_is_sound};
+ghost use Rattle.image_layout.specs.Checks.{first_failing};
+ghost use Rattle.image_layout.specs.HeapRules.{lane_rule, is_lane as lane_is_sound};
 
 use crate::layout::{FREEING, IDLE};
 use crate::pointers::{is_block_pointer, pointed_place};

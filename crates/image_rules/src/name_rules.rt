@@ -1,8 +1,8 @@
 // The rule of names and kinds.
 ghost use Rattle.std.specs.Prelude.{◌≡◌, ◌+◌, ◌/◌, ◌%◌, ◌<◌, ◌≤◌, length};
-ghost use Rattle.pm_model.specs.Places.{packed_byte as byte_at};
-ghost use Rattle.pm_model.specs.Checks.{Keeps, first_failing};
-ghost use Rattle.pm_model.specs.EntryRules.{name_rule, name_checks, is_letter as says_letter, is_name_byte as says_name_byte, is_padded_name_byte as padded_name_byte_holds, table_count_rule, table_slot_rule};
+ghost use Rattle.image_layout.specs.Places.{packed_byte as byte_at};
+ghost use Rattle.image_layout.specs.Checks.{Keeps, first_failing};
+ghost use Rattle.image_layout.specs.EntryRules.{name_rule, name_checks, is_letter as says_letter, is_name_byte as says_name_byte, is_padded_name_byte as padded_name_byte_holds, table_count_rule, table_slot_rule};
 ghost use Rattle.image_rules.specs.Parts.{IsTableBlock, column_name_checks, table_name_checks};
 
 use crate::table_rules::{columns_of, published_tables, table_block};

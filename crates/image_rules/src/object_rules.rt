@@ -1,8 +1,8 @@
 // The rule of transaction objects.
 ghost use Rattle.std.specs.Prelude.{◌≡◌, ◌+◌, ◌-◌, ◌%◌, ◌^◌, ◌<◌, ◌≤◌, min, length, slice_index};
-ghost use Rattle.pm_model.specs.Fixed.{last_at};
-ghost use Rattle.pm_model.specs.Checks.{first_failing};
-ghost use Rattle.pm_model.specs.EntryRules.{object_rule, objects_rule};
+ghost use Rattle.image_layout.specs.Fixed.{last_at};
+ghost use Rattle.image_layout.specs.Checks.{first_failing};
+ghost use Rattle.image_layout.specs.EntryRules.{object_rule, objects_rule};
 ghost use Rattle.image_rules.specs.Parts.{segment_checks};
 
 use crate::layout::{MAX_COMMITS, OPEN};

@@ -1,7 +1,7 @@
 // What the rules of the owner words that are built have to do with those of all owner words.
 ghost use Rattle.std.specs.Prelude.{◌≡◌, ℕ, List};
-ghost use Rattle.pm_model.specs.Owners.{owner_words};
-ghost use Rattle.pm_model.specs.SoundRules.{owner_rule, single_owner_rule, owned_rule};
+ghost use Rattle.image_layout.specs.Owners.{owner_words};
+ghost use Rattle.image_layout.specs.SoundRules.{owner_rule, single_owner_rule, owned_rule};
 ghost use Rattle.image_rules.specs.BuiltOwners.{HasEmptyTrees, built_owner_words, built_owner_rule, built_single_owner_rule, built_owned_rule};
 
 /// A law for proofs: where each column's tree is empty, the owner words of tables, arrays and transaction objects are all

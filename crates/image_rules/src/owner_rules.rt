@@ -3,11 +3,11 @@ ghost use Rattle.std.specs.Prelude.{◌≡◌, ◌*◌, ◌%◌, ◌<◌, ◌≤
 ghost use Rattle.std.specs.Int.{bit_at};
 ghost use Rattle.std.specs.BTreeSet.{contains};
 ghost use Rattle.std.specs.Ordering.{nat_cmp};
-ghost use Rattle.pm_model.specs.Pointer.{pointer_word};
-ghost use Rattle.pm_model.specs.Places.{is_pointer, place_in};
-ghost use Rattle.pm_model.specs.Blocks.{blocks_of_page, says_big as big_descriptor, is_inside as page_is_inside, is_live as block_is_live};
-ghost use Rattle.pm_model.specs.Checks.{Keeps, first_failing};
-ghost use Rattle.pm_model.specs.EntryRules.{table_count_rule, table_slot_rule, objects_rule};
+ghost use Rattle.image_layout.specs.Pointer.{pointer_word};
+ghost use Rattle.image_layout.specs.Places.{is_pointer, place_in};
+ghost use Rattle.image_layout.specs.Blocks.{blocks_of_page, says_big as big_descriptor, is_inside as page_is_inside, is_live as block_is_live};
+ghost use Rattle.image_layout.specs.Checks.{Keeps, first_failing};
+ghost use Rattle.image_layout.specs.EntryRules.{table_count_rule, table_slot_rule, objects_rule};
 ghost use Rattle.image_rules.specs.BuiltOwners.{built_owner_rule, HasWords, built_single_owner_rule, built_owned_rule, kept_check, slot_blocks, is_slot_block as slot_block_holds, is_head_block as head_block_holds};
 
 use crate::heap_rules::{descriptor_place, is_inside, left_behind, page_count, says_small};

@@ -1,10 +1,10 @@
 // The owner words of tables, arrays and transaction objects, gathered in one walk.
 ghost use Rattle.std.specs.Prelude.{◌≡◌, ◌+◌, ◌%◌, ◌<◌, ◌≤◌, ◌++◌, [], ◌∷◌, filter, map, IfOk, length, slice_index};
-ghost use Rattle.pm_model.specs.Tables as tables;
-ghost use Rattle.pm_model.specs.Blocks.{block_words as words_of_block};
-ghost use Rattle.pm_model.specs.Owners.{array_owners, names_one, object_owners, owner_of};
-ghost use Rattle.pm_model.specs.Checks.{Keeps};
-ghost use Rattle.pm_model.specs.EntryRules.{table_count_rule, table_slot_rule, objects_rule};
+ghost use Rattle.image_layout.specs.Tables as tables;
+ghost use Rattle.image_layout.specs.Blocks.{block_words as words_of_block};
+ghost use Rattle.image_layout.specs.Owners.{array_owners, names_one, object_owners, owner_of};
+ghost use Rattle.image_layout.specs.Checks.{Keeps};
+ghost use Rattle.image_layout.specs.EntryRules.{table_count_rule, table_slot_rule, objects_rule};
 ghost use Rattle.image_rules.specs.BuiltOwners.{as_read, built_column_owners, built_table_owners, built_owner_words};
 
 use crate::entry_rules::{next_segment, ready_count};

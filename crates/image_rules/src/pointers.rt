@@ -1,7 +1,7 @@
 // What a word of an image points to.
 ghost use Rattle.std.specs.Prelude.{◌≡◌, ◌+◌, ◌%◌, ◌<◌, ◌≤◌, ◌↔◌, false, IsNone, IfSome, length};
-ghost use Rattle.pm_model.specs.Places.{place_in, is_pointer, is_pointer_to, is_null_or_pointer_to};
-ghost use Rattle.pm_model.specs.Blocks.{is_slot as place_is_slot, is_block_pointer as word_is_block_pointer};
+ghost use Rattle.image_layout.specs.Places.{place_in, is_pointer, is_pointer_to, is_null_or_pointer_to};
+ghost use Rattle.image_layout.specs.Blocks.{is_slot as place_is_slot, is_block_pointer as word_is_block_pointer};
 
 use crate::heap_rules::{descriptor_place, is_reserved, is_small_page};
 use crate::layout::{FIRST_SLOT, SMALL_PAGE};

@@ -1,9 +1,9 @@
 // The rules that an image at rest keeps beside the others: nothing is half done, pages that were given back are 0.
 ghost use Rattle.std.specs.Prelude.{◌≡◌, ◌+◌, ◌%◌, ◌<◌, ◌≤◌, map, length};
 ghost use Rattle.std.specs.List.{range_with_len};
-ghost use Rattle.pm_model.specs.Checks.{Keeps, first_failing};
-ghost use Rattle.pm_model.specs.EntryRules.{table_count_rule, objects_rule};
-ghost use Rattle.pm_model.specs.SoundRules.{zero_check, idle_rule, closed_rule, given_back_rule};
+ghost use Rattle.image_layout.specs.Checks.{Keeps, first_failing};
+ghost use Rattle.image_layout.specs.EntryRules.{table_count_rule, objects_rule};
+ghost use Rattle.image_layout.specs.SoundRules.{zero_check, idle_rule, closed_rule, given_back_rule};
 ghost use Rattle.image_rules.specs.Parts.{next_slot_rule, object_zeros};
 
 use crate::entry_rules::{next_segment, ready_count};

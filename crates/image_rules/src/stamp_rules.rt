@@ -1,11 +1,11 @@
 // The rule of stamps.
 ghost use Rattle.std.specs.Prelude.{◌≡◌, ℕ, ◌+◌, ◌%◌, ◌^◌, ◌<◌, ◌≤◌, max, Option, None, Some, IfSome, option_map, length, slice_index, nat_le};
 ghost use Rattle.std.specs.List.{flat_map, list_all, range_with_len};
-ghost use Rattle.pm_model.specs.Arrays.{array_rule, capacity as capacity_at, capacity_of, chunk_words as words_of_chunk};
-ghost use Rattle.pm_model.specs.Records.{created_header as created_at, ended_header as ended_at, high_at};
-ghost use Rattle.pm_model.specs.Checks.{Keeps, first_failing};
-ghost use Rattle.pm_model.specs.EntryRules.{arrays_rule, table_count_rule, table_slot_rule};
-ghost use Rattle.pm_model.specs.SoundRules.{is_commit as commit_holds, is_created as created_holds, is_ended as ended_holds, row_checks, row_headers, stamp_checks, stamp_rule};
+ghost use Rattle.image_layout.specs.Arrays.{array_rule, capacity as capacity_at, capacity_of, chunk_words as words_of_chunk};
+ghost use Rattle.image_layout.specs.Records.{created_header as created_at, ended_header as ended_at, high_at};
+ghost use Rattle.image_layout.specs.Checks.{Keeps, first_failing};
+ghost use Rattle.image_layout.specs.EntryRules.{arrays_rule, table_count_rule, table_slot_rule};
+ghost use Rattle.image_layout.specs.SoundRules.{is_commit as commit_holds, is_created as created_holds, is_ended as ended_holds, row_checks, row_headers, stamp_checks, stamp_rule};
 ghost use Rattle.image_rules.specs.Parts.{IsTableBlock, table_arrays_rule};
 ghost use Rattle.image_rules.specs.Stamps.{chunk_place, place_checks, stamp_of};
 

@@ -1,9 +1,9 @@
 // The rules of the table count and of the table slots, and the readers of tables.
 ghost use Rattle.std.specs.Prelude.{◌≡◌, ◌+◌, ◌%◌, ◌<◌, ◌≤◌, length, slice_index};
-ghost use Rattle.pm_model.specs.Tables as tables;
-ghost use Rattle.pm_model.specs.Checks.{Keeps, first_failing};
-ghost use Rattle.pm_model.specs.Records.{columns_at};
-ghost use Rattle.pm_model.specs.EntryRules.{table_count_rule, table_slot_rule, is_table_pointer as names_table, is_table_slot as table_slot_holds};
+ghost use Rattle.image_layout.specs.Tables as tables;
+ghost use Rattle.image_layout.specs.Checks.{Keeps, first_failing};
+ghost use Rattle.image_layout.specs.Records.{columns_at};
+ghost use Rattle.image_layout.specs.EntryRules.{table_count_rule, table_slot_rule, is_table_pointer as names_table, is_table_slot as table_slot_holds};
 ghost use Rattle.image_rules.specs.Parts.{IsTableBlock};
 
 use crate::pointers::{is_block_pointer, pointed_place};

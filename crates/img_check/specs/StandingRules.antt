@@ -1,9 +1,9 @@
 -- The numbered rules of an image at rest, as far as they stand. They are tried in this order.
 use Rattle.std.specs.Prelude.{List, [], ◌∷◌}
-use Rattle.pm_model.specs.Checks.{Numbered, numbered}
-use Rattle.pm_model.specs.HeapRules.{reserved_rule, descriptor_rule, bitmap_rule, lane_rule}
-use Rattle.pm_model.specs.EntryRules.{magic_rule, version_rule, last_rule, table_count_rule, table_slot_rule, arrays_rule, name_rule, objects_rule, entries_rule}
-use Rattle.pm_model.specs.SoundRules.{idle_rule, closed_rule, stamp_rule, given_back_rule, distinct_name_rule}
+use Rattle.image_layout.specs.Checks.{Numbered, numbered}
+use Rattle.image_layout.specs.HeapRules.{reserved_rule, descriptor_rule, bitmap_rule, lane_rule}
+use Rattle.image_layout.specs.EntryRules.{magic_rule, version_rule, last_rule, table_count_rule, table_slot_rule, arrays_rule, name_rule, objects_rule, entries_rule}
+use Rattle.image_layout.specs.SoundRules.{idle_rule, closed_rule, stamp_rule, given_back_rule, distinct_name_rule}
 use Rattle.image_rules.specs.Parts.{next_slot_rule}
 use Rattle.image_rules.specs.BuiltOwners.{built_owner_rule, built_single_owner_rule, built_owned_rule}
 

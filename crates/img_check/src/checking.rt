@@ -1,6 +1,6 @@
 // The rules of an image at rest, one after the other.
 ghost use Rattle.std.specs.Prelude.{◌≡◌, ◌⊎◌, ℕ, ◌%◌, ◌≤◌, None, Some, IfOk, IfErr, length};
-ghost use Rattle.pm_model.specs.Checks.{first_fault};
+ghost use Rattle.image_layout.specs.Checks.{first_fault};
 ghost use Rattle.img_check.specs.declared.error.CheckError.TheVariants.{Unsound, NoMemory as OutOfMemory};
 ghost use Rattle.img_check.specs.StandingRules.{sound_rules};
 

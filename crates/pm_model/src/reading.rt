@@ -1,9 +1,9 @@
 // What the words of a memory name.
 ghost use Rattle.std.specs.Prelude.{◌≡◌, ◌<◌, IsTrue, length, slice_index};
-ghost use Rattle.pm_model.specs.Places.{is_pointer, place_in};
+ghost use Rattle.image_layout.specs.Places.{is_pointer, place_in};
 
 use crate::memory::Memory;
-use crate::place::{PPtr, Place};
+use image_layout::{PPtr, Place};
 
 /// The place that the pointer at a place names.
 pub fn named_place<M: Memory>(mem: &M, at: Place) -> Place

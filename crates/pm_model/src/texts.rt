@@ -1,11 +1,11 @@
 // The order of a text among the words of an image.
 ghost use Rattle.std.specs.Prelude.{◌≡◌, ◌+◌, ◌/◌, ◌<◌, ◌≤◌, length};
 ghost use Rattle.std.specs.Ordering.{is_gt, is_lt};
-ghost use Rattle.pm_model.specs.Places.{packed_byte as byte_at};
-ghost use Rattle.pm_model.specs.Trees.{text_at, text_below, text_length, text_words};
+ghost use Rattle.image_layout.specs.Places.{packed_byte as byte_at};
+ghost use Rattle.image_layout.specs.Trees.{text_at, text_below, text_length, text_words};
 
 use crate::memory::Memory;
-use crate::place::Place;
+use image_layout::Place;
 use std::cmp::Ordering;
 
 // A byte of a text or a name that is packed from a place on.

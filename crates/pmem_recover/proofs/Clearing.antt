@@ -6,12 +6,12 @@ use Rattle.std.proofs.lemmas.Bool.{cases_Bool, cases_lt, both_ways, ne_eqb, not-
 use Rattle.std.proofs.lemmas.List.{get_or_past, append-nil}
 use Rattle.std.proofs.lemmas.List.Elements.{All-map, All-push, Contains-get_or}
 use Rattle.pm_model.specs.declared.action.Action.{Action}
-use Rattle.pm_model.specs.declared.place.Place.{Place}
-use Rattle.pm_model.specs.Fixed.{commit_word_at}
+use Rattle.image_layout.specs.declared.place.Place.{Place}
+use Rattle.image_layout.specs.Fixed.{commit_word_at}
 use Rattle.pm_model.specs.Plans.{Part, one_store, store, stores, footprint, plan_of, unless_empty}
 use Rattle.pm_model.specs.Needed.{needed_stores}
-use Rattle.pm_model.specs.Objects.{entry_places}
-use Rattle.pm_model.proofs.Members.{Contains-filter, map-Contains}
+use Rattle.image_layout.specs.Objects.{entry_places}
+use Rattle.image_layout.proofs.Members.{Contains-filter, map-Contains}
 use Rattle.shown_state.specs.Mending.{clear_mending}
 use Rattle.pmem_recover.specs.declared.change.Change.{Change}
 use Rattle.pmem_recover.specs.Changes.{change, change_part}

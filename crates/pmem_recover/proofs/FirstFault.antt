@@ -1,9 +1,9 @@
 -- An image that keeps the rules which stand keeps those on which the steps of opening rely.
 use Rattle.std.proofs.Common.{◌≡◌, ℕ, List, arith}
 use Rattle.std.specs.Prelude.{None}
-use Rattle.pm_model.specs.Checks.{first_fault}
-use Rattle.pm_model.specs.HeapRules.{reserved_rule}
-use Rattle.pm_model.proofs.Faults.{keeps_all}
+use Rattle.image_layout.specs.Checks.{first_fault}
+use Rattle.image_layout.specs.HeapRules.{reserved_rule}
+use Rattle.image_layout.proofs.Faults.{keeps_all}
 use Rattle.pmem_recover.specs.EntryRules.{entry_rules}
 use Rattle.shown_state.specs.LaneRules.{KeepsLaneRules}
 use Rattle.pmem_recover.specs.Undo.{KeepsUndoRules}

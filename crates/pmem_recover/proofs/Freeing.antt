@@ -2,12 +2,12 @@
 use Rattle.std.proofs.Common.{◌≡◌, ◌≢◌, ◌⊎◌, ⊎_elim, ℕ, ◌-◌, ◌%◌, Bool, true, false, ◌&&◌, cond, eqb, ltb, List, [], ◌∷◌, ◌++◌, get_or, take, drop, sym, ◌∙◌, ap, arith}
 use Rattle.std.proofs.lemmas.Bool.{eqb-true, eq-eqb, ne_eqb, and_parts, cond-true, cond-false}
 use Rattle.pm_model.specs.declared.action.Action.{Action}
-use Rattle.pm_model.specs.Fixed.{descriptor_at, lane_op_at, lane_dest_at, lane_block_at}
-use Rattle.pm_model.specs.Pointer.{pointer_word}
-use Rattle.pm_model.specs.Places.{page_of, page_at, place_in}
+use Rattle.image_layout.specs.Fixed.{descriptor_at, lane_op_at, lane_dest_at, lane_block_at}
+use Rattle.image_layout.specs.Pointer.{pointer_word}
+use Rattle.image_layout.specs.Places.{page_of, page_at, place_in}
 use Rattle.pm_model.specs.Plans.{Part, one_store, store, plan_of}
 use Rattle.pm_model.specs.Needed.{needed_parts}
-use Rattle.pm_model.specs.Blocks.{bitmap_of, class_of, descriptor_of, slot_at, slot_in, slots_of, is_small_page, is_block_pointer}
+use Rattle.image_layout.specs.Blocks.{bitmap_of, class_of, descriptor_of, slot_at, slot_in, slots_of, is_small_page, is_block_pointer}
 use Rattle.heap_small.specs.Bitmap.{without_bit}
 use Rattle.heap_palloc.specs.Lane.{is_big_place, mark_at, unmarked}
 use Rattle.heap_palloc.specs.Parts.{freeing_parts, free_page_parts}

@@ -6,13 +6,13 @@ use Rattle.std.proofs.lemmas.List.{append-nil}
 use Rattle.std.proofs.lemmas.List.Elements.{filter-append}
 use Rattle.std.proofs.lemmas.List.FromFn.{map-range_with_len_more}
 use Rattle.std.proofs.lemmas.Grind.{flat_map-append}
-use Rattle.pm_model.specs.Fixed.{entry_at}
-use Rattle.pm_model.specs.Places.{below, is_pointer}
-use Rattle.pm_model.specs.Records.{segment_entry_at}
-use Rattle.pm_model.specs.Objects.{entry_places, ready_count, segment_pointer_at, segment_of}
-use Rattle.pm_model.specs.Checks.{Keeps}
-use Rattle.pm_model.specs.EntryRules.{objects_rule, object_rule}
-use Rattle.pm_model.proofs.OwnedBlocks.{one_object}
+use Rattle.image_layout.specs.Fixed.{entry_at}
+use Rattle.image_layout.specs.Places.{below, is_pointer}
+use Rattle.image_layout.specs.Records.{segment_entry_at}
+use Rattle.image_layout.specs.Objects.{entry_places, ready_count, segment_pointer_at, segment_of}
+use Rattle.image_layout.specs.Checks.{Keeps}
+use Rattle.image_layout.specs.EntryRules.{objects_rule, object_rule}
+use Rattle.image_layout.proofs.OwnedBlocks.{one_object}
 use Rattle.txn_object.proofs.Rule.{at_most_32, named}
 
 -- ── places gathered one by one ──

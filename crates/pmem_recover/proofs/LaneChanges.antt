@@ -1,9 +1,9 @@
 -- The plan of the changes that are made for a lane is that of opening's step.
 use Rattle.std.proofs.Common.{◌≡◌, ◌≢◌, ℕ, ◌<◌, List, [], ◌∷◌, ◌++◌, length, get_or, sym, ◌∙◌, ap}
 use Rattle.pm_model.specs.declared.action.Action.{Action}
-use Rattle.pm_model.specs.declared.place.Place.{Place}
+use Rattle.image_layout.specs.declared.place.Place.{Place}
 use Rattle.pm_model.specs.Device.{Device}
-use Rattle.pm_model.specs.Fixed.{lane_op_at, lane_block_at}
+use Rattle.image_layout.specs.Fixed.{lane_op_at, lane_block_at}
 use Rattle.pm_model.specs.Plans.{Part, plan_of, one_store, EachCut, IsPlan, Play, IsPlaying, IsCrashImageWithin, IsTakenBack}
 use Rattle.pm_model.specs.Needed.{needed_parts}
 use Rattle.pm_model.proofs.PlanLaw.{plan_survives_parts}

@@ -1,7 +1,7 @@
 -- Where owner words are apart, each lane may be mended.
 use Rattle.std.proofs.Common.{◌≡◌, ℕ, ◌%◌, ◌<◌, ◌≤◌, List, length, arith}
-use Rattle.pm_model.specs.EntryRules.{KeepsEntryRules}
-use Rattle.pm_model.specs.Owners.{lane_owner, OwnersAreApart}
+use Rattle.image_layout.specs.EntryRules.{KeepsEntryRules}
+use Rattle.image_layout.specs.Owners.{lane_owner, OwnersAreApart}
 use Rattle.heap_palloc.specs.Calls.{KeepsHeapRules}
 use Rattle.heap_palloc.proofs.Dests.{dest_place}
 use Rattle.heap_palloc.proofs.OwnedDests.{lane_dest}

@@ -6,11 +6,11 @@ use Rattle.std.proofs.lemmas.List.{length-append}
 use Rattle.std.proofs.lemmas.List.FromFn.{map-range_with_len_more}
 use Rattle.pm_model.specs.declared.action.Action.{Action}
 use Rattle.pm_model.specs.declared.action.Action.TheVariants.{Flush, Fence}
-use Rattle.pm_model.specs.Fixed.{state_at, last_at}
-use Rattle.pm_model.specs.Places.{below}
+use Rattle.image_layout.specs.Fixed.{state_at, last_at}
+use Rattle.image_layout.specs.Places.{below}
 use Rattle.pm_model.specs.Plans.{Part, lines_of, one_store, part_actions, part_end, plan_of, unless_empty, words_after}
 use Rattle.pm_model.specs.Needed.{needed_parts, Mending}
-use Rattle.pm_model.specs.Objects.{is_open, commit_word, open_commit, last_commit}
+use Rattle.image_layout.specs.Objects.{is_open, commit_word, open_commit, last_commit}
 use Rattle.shown_state.specs.Mending.{close_mending, last_mending}
 use Rattle.pmem_recover.specs.Steps.{step_parts}
 

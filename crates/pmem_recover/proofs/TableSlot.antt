@@ -5,15 +5,15 @@ use Rattle.std.specs.List.{flat_map}
 use Rattle.std.proofs.lemmas.Bool.{eqb-true, eq-eqb, ne_eqb, lt-ltb, le-ltb, or_cases, cond-true, cond-false}
 use Rattle.std.proofs.lemmas.List.{append-nil}
 use Rattle.std.proofs.lemmas.List.Elements.{All-contains}
-use Rattle.pm_model.specs.Fixed.{table_slot_at}
-use Rattle.pm_model.specs.Places.{below}
+use Rattle.image_layout.specs.Fixed.{table_slot_at}
+use Rattle.image_layout.specs.Places.{below}
 use Rattle.pm_model.specs.Needed.{needed_parts}
-use Rattle.pm_model.specs.Blocks.{is_block_pointer}
-use Rattle.pm_model.specs.Tables.{table_count}
-use Rattle.pm_model.specs.Owners.{next_table_slots}
-use Rattle.pm_model.specs.Checks.{Check, check, Keeps}
-use Rattle.pm_model.specs.EntryRules.{table_slot_rule, is_table_slot, is_table_pointer}
-use Rattle.pm_model.proofs.Members.{below-Contains, map-Contains}
+use Rattle.image_layout.specs.Blocks.{is_block_pointer}
+use Rattle.image_layout.specs.Tables.{table_count}
+use Rattle.image_layout.specs.Owners.{next_table_slots}
+use Rattle.image_layout.specs.Checks.{Check, check, Keeps}
+use Rattle.image_layout.specs.EntryRules.{table_slot_rule, is_table_slot, is_table_pointer}
+use Rattle.image_layout.proofs.Members.{below-Contains, map-Contains}
 use Rattle.shown_state.specs.Mending.{free_block, free_table, slot_mending}
 use Rattle.pmem_recover.specs.Steps.{step_parts}
 use Rattle.pmem_recover.proofs.Steps.{step-by}

@@ -9,14 +9,14 @@ use Rattle.std.proofs.lemmas.List.FromFn.{map-range_with_len_more}
 use Rattle.std.proofs.lemmas.Grind.{flat_map-append}
 use Rattle.std.proofs.Math.Seq.{take-suc, take-append_seam, drop-append_seam}
 use Rattle.pm_model.specs.declared.action.Action.{Action}
-use Rattle.pm_model.specs.declared.place.Place.{Place}
-use Rattle.pm_model.specs.Fixed.{state_at, commit_word_at}
-use Rattle.pm_model.specs.Records.{high_at}
-use Rattle.pm_model.specs.Places.{below}
+use Rattle.image_layout.specs.declared.place.Place.{Place}
+use Rattle.image_layout.specs.Fixed.{state_at, commit_word_at}
+use Rattle.image_layout.specs.Records.{high_at}
+use Rattle.image_layout.specs.Places.{below}
 use Rattle.pm_model.specs.Plans.{Part, one_store, store, plan_of}
 use Rattle.pm_model.specs.Needed.{needed_parts}
-use Rattle.pm_model.specs.Tables.{table_count, table_block}
-use Rattle.pm_model.specs.Objects.{is_open, commit_word, entries, entry_places}
+use Rattle.image_layout.specs.Tables.{table_count, table_block}
+use Rattle.image_layout.specs.Objects.{is_open, commit_word, entries, entry_places}
 use Rattle.shown_state.specs.LogicalState.{row_bound}
 use Rattle.shown_state.specs.Mending.{undo_mending, undo_entry, undo_parts}
 use Rattle.pmem_recover.specs.declared.change.Change.{Change}

@@ -1,8 +1,8 @@
 -- The numbered rules of every image that a power cut can leave, as far as they stand. They are tried in this order.
 use Rattle.std.specs.Prelude.{List, [], ◌∷◌}
-use Rattle.pm_model.specs.Checks.{Numbered, numbered}
-use Rattle.pm_model.specs.HeapRules.{reserved_rule, descriptor_rule, bitmap_rule, lane_rule}
-use Rattle.pm_model.specs.EntryRules.{magic_rule, version_rule, last_rule, table_count_rule, table_slot_rule, arrays_rule, name_rule, objects_rule, entries_rule}
+use Rattle.image_layout.specs.Checks.{Numbered, numbered}
+use Rattle.image_layout.specs.HeapRules.{reserved_rule, descriptor_rule, bitmap_rule, lane_rule}
+use Rattle.image_layout.specs.EntryRules.{magic_rule, version_rule, last_rule, table_count_rule, table_slot_rule, arrays_rule, name_rule, objects_rule, entries_rule}
 
 -- those of the first words, of the heap, of the lanes, of tables and of transaction objects
 abbrev pub entry_rules : List Numbered

@@ -1,6 +1,6 @@
 -- Words of a memory that aren't 0.
 use Rattle.std.specs.Prelude.{ℕ, Bool, not, ◌==◌, List, map, slice_index}
-use Rattle.pm_model.specs.declared.place.Place.{Place}
+use Rattle.image_layout.specs.declared.place.Place.{Place}
 
 abbrev pub is_filled : List ℕ → ℕ → Bool
 is_filled words at = not (slice_index words at == 0)

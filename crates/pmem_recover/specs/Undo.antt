@@ -1,9 +1,9 @@
 -- What taking back an undecided transaction reads: the rules that it relies on, and the entries as words.
 use Rattle.std.specs.Prelude.{ℕ, ◌&&◌, ◌==◌, List, map, filter, slice_index}
-use Rattle.pm_model.specs.declared.place.Place.{Place}
-use Rattle.pm_model.specs.Objects.{entry_kind, entry_table, entry_row}
-use Rattle.pm_model.specs.Checks.{Keeps}
-use Rattle.pm_model.specs.EntryRules.{table_count_rule, table_slot_rule, arrays_rule, objects_rule, entries_rule}
+use Rattle.image_layout.specs.declared.place.Place.{Place}
+use Rattle.image_layout.specs.Objects.{entry_kind, entry_table, entry_row}
+use Rattle.image_layout.specs.Checks.{Keeps}
+use Rattle.image_layout.specs.EntryRules.{table_count_rule, table_slot_rule, arrays_rule, objects_rule, entries_rule}
 use Rattle.pmem_recover.specs.Filled.{places_of}
 
 -- the rules 4, 9, 10, 14 and 15

@@ -1,8 +1,8 @@
 // The step of opening that clears transaction objects.
 ghost use Rattle.std.specs.Prelude.{◌≡◌, ◌↔◌, ◌+◌, ◌^◌, ◌<◌, ◌++◌, [], ◌∷◌, IsNone, IfSome, IfOk, length, map};
 ghost use Rattle.pm_model.specs.Plans.{plan_of};
-ghost use Rattle.pm_model.specs.Checks.{Keeps};
-ghost use Rattle.pm_model.specs.EntryRules.{objects_rule};
+ghost use Rattle.image_layout.specs.Checks.{Keeps};
+ghost use Rattle.image_layout.specs.EntryRules.{objects_rule};
 ghost use Rattle.shown_state.specs.Mending.{clear_mending};
 ghost use Rattle.pmem_recover.specs.Changes.{change};
 ghost use Rattle.pmem_recover.specs.Steps.{step_parts, IsNext, NoneFrom};

@@ -1,11 +1,11 @@
 // The entries of a transaction object: those that stand in it, and those of its ready segments.
 ghost use Rattle.std.specs.Prelude.{◌≡◌, ◌+◌, ◌*◌, ◌<◌, ◌≤◌, ◌++◌, [], ◌∷◌, IfOk, filter, length, map, vec_len};
-ghost use Rattle.pm_model.specs.Fixed.{entry_at};
-ghost use Rattle.pm_model.specs.Places.{below};
-ghost use Rattle.pm_model.specs.Records.{segment_entry_at};
-ghost use Rattle.pm_model.specs.Objects.{entry_places};
-ghost use Rattle.pm_model.specs.Checks.{Keeps};
-ghost use Rattle.pm_model.specs.EntryRules.{objects_rule};
+ghost use Rattle.image_layout.specs.Fixed.{entry_at};
+ghost use Rattle.image_layout.specs.Places.{below};
+ghost use Rattle.image_layout.specs.Records.{segment_entry_at};
+ghost use Rattle.image_layout.specs.Objects.{entry_places};
+ghost use Rattle.image_layout.specs.Checks.{Keeps};
+ghost use Rattle.image_layout.specs.EntryRules.{objects_rule};
 ghost use Rattle.pmem_recover.specs.Filled.{is_filled, places_of};
 
 use pm_model::{

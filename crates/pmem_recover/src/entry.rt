@@ -1,6 +1,6 @@
 // The rules of every image that a power cut can leave, tried before it is opened.
 ghost use Rattle.std.specs.Prelude.{◌≡◌, ◌⊎◌, ℕ, ◌%◌, ◌≤◌, None, Some, IfOk, IfErr, length};
-ghost use Rattle.pm_model.specs.Checks.{first_fault};
+ghost use Rattle.image_layout.specs.Checks.{first_fault};
 ghost use Rattle.pmem_recover.specs.declared.error.EntryError.TheVariants.{BadImage, NoMemory as OutOfMemory};
 ghost use Rattle.pmem_recover.specs.EntryRules.{entry_rules};
 

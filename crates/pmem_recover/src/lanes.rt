@@ -1,9 +1,9 @@
 // The first step of opening: the lanes that a power cut left at work.
 ghost use Rattle.std.specs.Prelude.{◌≡◌, ◌≢◌, ◌↔◌, ◌+◌, ◌*◌, ◌<◌, ◌≤◌, ◌%◌, IsTrue, IsNone, IfSome, IfOk, length, slice_index};
-ghost use Rattle.pm_model.specs.Fixed.{lane_op_at};
-ghost use Rattle.pm_model.specs.Places.{place_in, is_pointer};
+ghost use Rattle.image_layout.specs.Fixed.{lane_op_at};
+ghost use Rattle.image_layout.specs.Places.{place_in, is_pointer};
 ghost use Rattle.pm_model.specs.Plans.{plan_of};
-ghost use Rattle.pm_model.specs.Blocks.{is_slot};
+ghost use Rattle.image_layout.specs.Blocks.{is_slot};
 ghost use Rattle.pmem_recover.specs.Changes.{change};
 ghost use Rattle.shown_state.specs.LaneRules.{KeepsLaneRules};
 ghost use Rattle.shown_state.specs.Mending.{lane_mending};

@@ -2,10 +2,10 @@
 ghost use Rattle.std.specs.Prelude.{◌≡◌, ◌↔◌, ℕ, ◌%◌, ◌<◌, ◌≤◌, List, None, All, length, slice_index};
 ghost use Rattle.pm_model.specs.declared.action.Action.{Action};
 ghost use Rattle.pm_model.specs.Device.{Device};
-ghost use Rattle.pm_model.specs.Fixed.{lane_op_at};
-ghost use Rattle.pm_model.specs.Checks.{Keeps, Numbered, first_fault};
-ghost use Rattle.pm_model.specs.EntryRules.{KeepsEntryRules};
-ghost use Rattle.pm_model.specs.Owners.{OwnersAreApart};
+ghost use Rattle.image_layout.specs.Fixed.{lane_op_at};
+ghost use Rattle.image_layout.specs.Checks.{Keeps, Numbered, first_fault};
+ghost use Rattle.image_layout.specs.EntryRules.{KeepsEntryRules};
+ghost use Rattle.image_layout.specs.Owners.{OwnersAreApart};
 ghost use Rattle.pm_model.specs.Needed.{after_mending};
 ghost use Rattle.pm_model.specs.Plans.{Play, IsPlan, IsPlaying, IsCrashImageWithin, IsTakenBack, EachCut};
 ghost use Rattle.heap_palloc.specs.Lane.{mended_lane};

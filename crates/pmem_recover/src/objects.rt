@@ -1,7 +1,7 @@
 // The last steps of opening: the last commit number, and what is left in transaction objects.
 ghost use Rattle.std.specs.Prelude.{◌≡◌, ◌≢◌, ◌↔◌, ◌+◌, ◌*◌, ◌<◌, ◌≤◌, ◌&&◌, ◌==◌, not, IsTrue, IsNone, IfSome, IfOk, length, slice_index};
 ghost use Rattle.pm_model.specs.Plans.{plan_of};
-ghost use Rattle.pm_model.specs.Objects.{is_open, commit_word as commit_word_of, open_commit as open_commit_of, last_commit as last_commit_of};
+ghost use Rattle.image_layout.specs.Objects.{is_open, commit_word as commit_word_of, open_commit as open_commit_of, last_commit as last_commit_of};
 ghost use Rattle.shown_state.specs.Mending.{last_mending, close_mending};
 ghost use Rattle.pmem_recover.specs.Steps.{step_parts, IsNext, NoneFrom};
 

@@ -1,10 +1,10 @@
 // The step of opening that frees the block of a table that was being created.
 ghost use Rattle.std.specs.Prelude.{◌≡◌, ◌≢◌, ◌↔◌, ◌*◌, ◌<◌, ◌≤◌, IsNone, IfSome, IfOk, IsTrue, length, slice_index};
-ghost use Rattle.pm_model.specs.Blocks.{is_block_pointer};
+ghost use Rattle.image_layout.specs.Blocks.{is_block_pointer};
 ghost use Rattle.pm_model.specs.Plans.{plan_of};
 ghost use Rattle.pm_model.specs.Needed.{needed_parts};
-ghost use Rattle.pm_model.specs.Checks.{Keeps};
-ghost use Rattle.pm_model.specs.EntryRules.{table_slot_rule};
+ghost use Rattle.image_layout.specs.Checks.{Keeps};
+ghost use Rattle.image_layout.specs.EntryRules.{table_slot_rule};
 ghost use Rattle.shown_state.specs.Mending.{free_block, slot_mending};
 ghost use Rattle.pmem_recover.specs.Steps.{step_parts, IsNext, NoneFrom};
 

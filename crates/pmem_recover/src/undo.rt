@@ -1,11 +1,11 @@
 // The step of opening that takes back the transactions that a power cut left undecided.
 ghost use Rattle.std.specs.Prelude.{◌≡◌, ◌↔◌, ◌+◌, ◌<◌, ◌≤◌, ◌++◌, [], max, All, IsTrue, IsNone, IfSome, IfOk, length, map, slice_index, vec_len, vec_capacity};
 ghost use Rattle.std.specs.List.{flat_map};
-ghost use Rattle.pm_model.specs.Places.{below};
+ghost use Rattle.image_layout.specs.Places.{below};
 ghost use Rattle.pm_model.specs.Plans.{plan_of, store};
-ghost use Rattle.pm_model.specs.Records.{high_at};
-ghost use Rattle.pm_model.specs.Tables.{table_count as table_count_of, table_block as table_block_of};
-ghost use Rattle.pm_model.specs.EntryRules.{is_entry};
+ghost use Rattle.image_layout.specs.Records.{high_at};
+ghost use Rattle.image_layout.specs.Tables.{table_count as table_count_of, table_block as table_block_of};
+ghost use Rattle.image_layout.specs.EntryRules.{is_entry};
 ghost use Rattle.shown_state.specs.LogicalState.{row_bound as row_bound_of};
 ghost use Rattle.shown_state.specs.Mending.{undo_mending, undo_entry};
 ghost use Rattle.pmem_recover.specs.Changes.{change_part};

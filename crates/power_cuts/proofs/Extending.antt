@@ -5,12 +5,12 @@ use Rattle.std.specs.List.{count_by}
 use Rattle.std.proofs.lemmas.Bool.{cases_Bool, cond-true, cond-false}
 use Rattle.std.proofs.lemmas.List.Sums.{length-filter, count_by-le-length}
 use Rattle.pm_model.specs.declared.action.Action.{Action}
-use Rattle.pm_model.specs.Fixed.{lane_op_at, ready_at, first_segment_at}
-use Rattle.pm_model.specs.Places.{place_in}
+use Rattle.image_layout.specs.Fixed.{lane_op_at, ready_at, first_segment_at}
+use Rattle.image_layout.specs.Places.{place_in}
 use Rattle.pm_model.specs.Device.{Device, IsClean}
 use Rattle.pm_model.specs.Plans.{Part, IsPlan, at_rest, plan_of, finished}
-use Rattle.pm_model.specs.Checks.{first_fault}
-use Rattle.pm_model.specs.Objects.{ready_count, segment_pointer_at, pointer_after, entry_places, entries}
+use Rattle.image_layout.specs.Checks.{first_fault}
+use Rattle.image_layout.specs.Objects.{ready_count, segment_pointer_at, pointer_after, entry_places, entries}
 use Rattle.heap_palloc.specs.Index.{HeapIndex, IsIndexOf}
 use Rattle.heap_palloc.specs.Calls.{MayCall, IsAllocated}
 use Rattle.heap_palloc.specs.Choice.{choice_parts, IsThrough}

@@ -4,16 +4,16 @@ use Rattle.std.specs.Prelude.{None, All}
 use Rattle.std.proofs.lemmas.List.{length-map}
 use Rattle.std.proofs.lemmas.List.FromFn.{length-range_with_len}
 use Rattle.std.proofs.lemmas.List.Elements.{All-nil}
-use Rattle.pm_model.specs.Fixed.{lane_op_at, ready_at, first_segment_at, table_count_at, table_slot_at}
-use Rattle.pm_model.specs.Places.{below}
-use Rattle.pm_model.specs.Objects.{segment_pointer_at}
-use Rattle.pm_model.specs.Checks.{Keeps, first_fault}
-use Rattle.pm_model.specs.HeapRules.{reserved_rule}
-use Rattle.pm_model.specs.EntryRules.{table_count_rule, table_slot_rule, objects_rule}
-use Rattle.pm_model.specs.SoundRules.{table_name_checks, distinct_name_rule}
-use Rattle.pm_model.specs.Tables.{table_block}
-use Rattle.pm_model.proofs.Faults.{Holds, keeps_all}
-use Rattle.pm_model.proofs.OwnedBlocks.{one_object}
+use Rattle.image_layout.specs.Fixed.{lane_op_at, ready_at, first_segment_at, table_count_at, table_slot_at}
+use Rattle.image_layout.specs.Places.{below}
+use Rattle.image_layout.specs.Objects.{segment_pointer_at}
+use Rattle.image_layout.specs.Checks.{Keeps, first_fault}
+use Rattle.image_layout.specs.HeapRules.{reserved_rule}
+use Rattle.image_layout.specs.EntryRules.{table_count_rule, table_slot_rule, objects_rule}
+use Rattle.image_layout.specs.SoundRules.{table_name_checks, distinct_name_rule}
+use Rattle.image_layout.specs.Tables.{table_block}
+use Rattle.image_layout.proofs.Faults.{Holds, keeps_all}
+use Rattle.image_layout.proofs.OwnedBlocks.{one_object}
 use Rattle.heap_palloc.specs.Index.{HeapIndex, IsIndexOf}
 use Rattle.heap_palloc.specs.Calls.{KeepsHeapRules}
 use Rattle.txn_object.specs.Calls.{MayPlanExtension}

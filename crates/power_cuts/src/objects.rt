@@ -1,9 +1,9 @@
 //! An image with one table, and an open transaction of session 1 that created 63 rows of it, which fill its object and begin a
 //! segment.
 ghost use Rattle.std.specs.Prelude.{◌≡◌, ℕ, ◌+◌, ◌<◌, ◌≤◌, None, List, IfOk, length, slice_index};
-ghost use Rattle.pm_model.specs.Fixed.{lane_op_at, ready_at, first_segment_at};
-ghost use Rattle.pm_model.specs.Places.{place_in};
-ghost use Rattle.pm_model.specs.Checks.{first_fault};
+ghost use Rattle.image_layout.specs.Fixed.{lane_op_at, ready_at, first_segment_at};
+ghost use Rattle.image_layout.specs.Places.{place_in};
+ghost use Rattle.image_layout.specs.Checks.{first_fault};
 ghost use Rattle.pm_model.specs.Device.{IsClean};
 ghost use Rattle.pm_model.specs.Plain.{device_of};
 ghost use Rattle.pm_model.specs.Plans.{Part, IsPlan, finished, plan_of};

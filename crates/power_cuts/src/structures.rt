@@ -1,8 +1,8 @@
 //! Each power cut of the first extension of a transaction object and of the creation of a table: opened step by step, the
 //! image is sound and has the change whole or not at all.
 ghost use Rattle.std.specs.Prelude.{◌≡◌, ◌≤◌, None, slice_index};
-ghost use Rattle.pm_model.specs.Fixed.{lane_op_at, ready_at, first_segment_at, table_count_at, table_slot_at};
-ghost use Rattle.pm_model.specs.Checks.{first_fault};
+ghost use Rattle.image_layout.specs.Fixed.{lane_op_at, ready_at, first_segment_at, table_count_at, table_slot_at};
+ghost use Rattle.image_layout.specs.Checks.{first_fault};
 ghost use Rattle.pmem_recover.specs.EntryRules.{entry_rules};
 
 use crate::opening::{KEEPS, Step, mend, open, play};

@@ -3,7 +3,7 @@ use Rattle.std.proofs.Common.{◌≡◌, ◌⊎◌, inl, inr, ⊎_elim, ℕ, zer
 use Rattle.std.specs.Prelude.{Some, Contains, slice_get}
 use Rattle.std.specs.List.{flat_map}
 use Rattle.std.proofs.lemmas.List.Elements.{Contains-append_left, Contains-append_right, Contains-append_cases}
-use Rattle.pm_model.proofs.Members.{Contains-nil}
+use Rattle.image_layout.proofs.Members.{Contains-nil}
 use Rattle.row_stamps.specs.Stamps.{Commit, IsVisible, IsLeft, AreStampsOf}
 
 module _ (rows : Commit → List ℕ) (row : ℕ) where

@@ -1,6 +1,6 @@
 // Who sees a row, in terms of the commits.
 ghost use Rattle.std.specs.Prelude.{ℕ, ◌<◌, ◌≤◌, ◌↔◌, List, length, take};
-ghost use Rattle.pm_model.specs.SoundRules.{no_commit};
+ghost use Rattle.image_layout.specs.SoundRules.{no_commit};
 ghost use Rattle.row_stamps.specs.Stamps.{Commit, IsVisible, IsLeft, AreStampsOf};
 
 /// A row is visible exactly where the commits up to the snapshot leave it, and a dead one nowhere.

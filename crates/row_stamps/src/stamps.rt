@@ -1,6 +1,6 @@
 ghost use Rattle.std.specs.Prelude.{◌≡◌, ◌+◌, ◌<◌, ◌↔◌, ◌++◌, [], ◌∷◌, IsTrue};
 ghost use Rattle.pm_model.specs.Plans.{store};
-ghost use Rattle.pm_model.specs.SoundRules.{no_commit};
+ghost use Rattle.image_layout.specs.SoundRules.{no_commit};
 ghost use Rattle.row_stamps.specs.Stamps.{IsVisible};
 
 use pm_model::{Action, NO_COMMIT, Place, Plan};

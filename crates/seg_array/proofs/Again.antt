@@ -4,12 +4,12 @@ use Rattle.std.specs.Prelude.{Contains}
 use Rattle.std.proofs.lemmas.Nat.{pow_pos}
 use Rattle.std.proofs.lemmas.Bool.{cases_eq, cases_lt, cond-true, cond-false, lt-ltb, le-ltb, le-leb, eq-eqb, and_from}
 use Rattle.pm_model.specs.declared.action.Action.{Action}
-use Rattle.pm_model.specs.Fixed.{lane_op_at}
-use Rattle.pm_model.specs.Pointer.{pointer_word}
-use Rattle.pm_model.specs.Places.{page_at, place_in, is_pointer_to, is_null_or_pointer_to}
+use Rattle.image_layout.specs.Fixed.{lane_op_at}
+use Rattle.image_layout.specs.Pointer.{pointer_word}
+use Rattle.image_layout.specs.Places.{page_at, place_in, is_pointer_to, is_null_or_pointer_to}
 use Rattle.pm_model.specs.Plans.{finished}
-use Rattle.pm_model.specs.Blocks.{Block, live_blocks}
-use Rattle.pm_model.specs.Checks.{Keeps}
+use Rattle.image_layout.specs.Blocks.{Block, live_blocks}
+use Rattle.image_layout.specs.Checks.{Keeps}
 use Rattle.heap_palloc.specs.Index.{HeapIndex}
 use Rattle.heap_palloc.specs.Choice.{in_run}
 use Rattle.heap_palloc.specs.Calls.{KeepsHeapRules}
@@ -17,7 +17,7 @@ use Rattle.heap_palloc.proofs.RulesKept.{choice_rules}
 use Rattle.heap_palloc.proofs.Stages.{place_in-pointer}
 use Rattle.heap_palloc.proofs.SameHeaps.{rules_same}
 use Rattle.heap_palloc.proofs.Owners.{more_live}
-use Rattle.pm_model.specs.Arrays.{chunk_pages, chunk_words, chunk_count, chunk_pointer_at, is_chunk_pointer, array_rule}
+use Rattle.image_layout.specs.Arrays.{chunk_pages, chunk_words, chunk_count, chunk_pointer_at, is_chunk_pointer, array_rule}
 use Rattle.seg_array.specs.Growth.{Growth, next_pointer_at, next_chunk, chunk_block, growth_parts, MayGrow}
 use Rattle.seg_array.specs.Calls.{MayPlanGrowth, IsGrowthPlanned}
 use Rattle.seg_array.proofs.Headers.{pointer_rule, behind_null, array_from, points_same}

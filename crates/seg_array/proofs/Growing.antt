@@ -4,24 +4,24 @@ use Rattle.std.specs.Prelude.{Contains}
 use Rattle.std.proofs.lemmas.Nat.{pow_pos}
 use Rattle.std.proofs.lemmas.List.{get_or-set_same, get_or-set_other, length-set}
 use Rattle.std.proofs.lemmas.Bool.{cases_eq, cases_lt, not-true, and_parts}
-use Rattle.pm_model.specs.Fixed.{descriptor_at, lane_op_at}
-use Rattle.pm_model.specs.Pointer.{pointer_word}
-use Rattle.pm_model.specs.Places.{page_of, page_at, page_count, place_in}
+use Rattle.image_layout.specs.Fixed.{descriptor_at, lane_op_at}
+use Rattle.image_layout.specs.Pointer.{pointer_word}
+use Rattle.image_layout.specs.Places.{page_of, page_at, page_count, place_in}
 use Rattle.pm_model.specs.Device.{IsBetween}
 use Rattle.pm_model.specs.Plans.{words_after, EachCut, finished}
-use Rattle.pm_model.specs.Blocks.{Block, slot_words, says_small, descriptor_of, class_of, is_inside, is_small_page, live_blocks}
+use Rattle.image_layout.specs.Blocks.{Block, slot_words, says_small, descriptor_of, class_of, is_inside, is_small_page, live_blocks}
 use Rattle.pm_model.proofs.Alone.{length-words_after}
 use Rattle.pm_model.proofs.PlanLaw.{words_after-kept}
 use Rattle.pm_model.proofs.Cuts.{between-kept, between-end, cut-one_store}
-use Rattle.pm_model.proofs.Heap.{behind_block, slot_fits, page_of_block, small_class, big_pages, IsSmallOf, IsBigOf}
+use Rattle.image_layout.proofs.Heap.{behind_block, slot_fits, page_of_block, small_class, big_pages, IsSmallOf, IsBigOf}
 use Rattle.heap_palloc.specs.Lane.{mended_lane}
 use Rattle.heap_palloc.specs.Law.{IsElsewhere, Shows, IsHeapPage}
 use Rattle.heap_palloc.proofs.Stages.{place_in-pointer, mended-idle}
 use Rattle.heap_palloc.proofs.LiveBlocks.{SameHeap, live_blocks-same}
-use Rattle.pm_model.specs.Arrays.{chunk_pages, capacity_of, chunk_of, chunk_count, place_of}
+use Rattle.image_layout.specs.Arrays.{chunk_pages, capacity_of, chunk_of, chunk_count, place_of}
 use Rattle.seg_array.specs.Growth.{Growth, next_pointer_at, next_chunk, chunk_block, punches, publishing_parts, growth_parts, MayGrow}
 use Rattle.seg_array.specs.Shown.{IsOutsidePages, KeepsArray, HasChunk, HasNoChunk, IsUngrown, IsGrown}
-use Rattle.pm_model.proofs.ChunkSizes.{capacity_next, chunk_is, chunk_below}
+use Rattle.image_layout.proofs.ChunkSizes.{capacity_next, chunk_is, chunk_below}
 use Rattle.seg_array.proofs.Punches.{punches-out, punches-zero}
 
 module _ (base : List ℕ) (g : Growth) (may : MayGrow base g) where

@@ -3,13 +3,13 @@ use Rattle.std.proofs.Common.{◌≡◌, ⊎_elim, ℕ, ◌+◌, ◌%◌, ◌<�
 use Rattle.std.specs.Prelude.{Contains, All}
 use Rattle.std.proofs.lemmas.Bool.{cond-true, cond-false, lt-ltb, le-ltb, le-leb, leb-true, ltb-true, eqb-true, eq-eqb, ne_eqb, and_parts, or_cases}
 use Rattle.std.proofs.lemmas.List.Elements.{All-contains, All-contains_itself}
-use Rattle.pm_model.specs.Pointer.{pointer_word}
-use Rattle.pm_model.specs.Places.{below, place_in, is_pointer, is_in_segment, is_pointer_to, is_null_or_pointer_to}
-use Rattle.pm_model.specs.Checks.{Check, check, Keeps}
-use Rattle.pm_model.proofs.Heap.{Holds}
-use Rattle.pm_model.proofs.Members.{below-Contains, Contains-below, Contains-here, Contains-there, Contains-cons, Contains-map, map-Contains}
-use Rattle.pm_model.specs.Arrays.{chunk_words, capacity_of, chunk_of, offset_of, chunk_count, chunk_pointer_at, is_chunk_pointer, array_rule, capacity, place_of}
-use Rattle.pm_model.proofs.ChunkSizes.{capacity_next, chunk_below}
+use Rattle.image_layout.specs.Pointer.{pointer_word}
+use Rattle.image_layout.specs.Places.{below, place_in, is_pointer, is_in_segment, is_pointer_to, is_null_or_pointer_to}
+use Rattle.image_layout.specs.Checks.{Check, check, Keeps}
+use Rattle.image_layout.proofs.Heap.{Holds}
+use Rattle.image_layout.proofs.Members.{below-Contains, Contains-below, Contains-here, Contains-there, Contains-cons, Contains-map, map-Contains}
+use Rattle.image_layout.specs.Arrays.{chunk_words, capacity_of, chunk_of, offset_of, chunk_count, chunk_pointer_at, is_chunk_pointer, array_rule, capacity, place_of}
+use Rattle.image_layout.proofs.ChunkSizes.{capacity_next, chunk_below}
 
 -- a chunk's words lie in the image, and in one segment
 pub record NamesChunk (words : List ℕ) (count pointer : ℕ) : Type 0 where

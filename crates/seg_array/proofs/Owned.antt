@@ -1,15 +1,15 @@
 -- Where owner words are apart, the arrays of a published table may grow.
 use Rattle.std.proofs.Common.{◌≡◌, ℕ, ◌<◌, List, get_or, subst, arith}
 use Rattle.std.specs.Prelude.{Contains}
-use Rattle.pm_model.specs.Fixed.{lane_op_at}
-use Rattle.pm_model.specs.Places.{place_in}
-use Rattle.pm_model.specs.Arrays.{chunk_count, chunk_words}
-use Rattle.pm_model.specs.Blocks.{Block, live_blocks}
-use Rattle.pm_model.specs.EntryRules.{KeepsEntryRules}
-use Rattle.pm_model.specs.Owners.{OwnersAreApart}
-use Rattle.pm_model.specs.Tables.{table_count, table_block, array_headers}
-use Rattle.pm_model.proofs.OwnersApart.{LiveAt}
-use Rattle.pm_model.proofs.OwnedBlocks.{one_array, table_live, header_inside, chunk_live, chunk_apart}
+use Rattle.image_layout.specs.Fixed.{lane_op_at}
+use Rattle.image_layout.specs.Places.{place_in}
+use Rattle.image_layout.specs.Arrays.{chunk_count, chunk_words}
+use Rattle.image_layout.specs.Blocks.{Block, live_blocks}
+use Rattle.image_layout.specs.EntryRules.{KeepsEntryRules}
+use Rattle.image_layout.specs.Owners.{OwnersAreApart}
+use Rattle.image_layout.specs.Tables.{table_count, table_block, array_headers}
+use Rattle.image_layout.proofs.OwnersApart.{LiveAt}
+use Rattle.image_layout.proofs.OwnedBlocks.{one_array, table_live, header_inside, chunk_live, chunk_apart}
 use Rattle.heap_palloc.specs.Index.{HeapIndex, IsIndexOf}
 use Rattle.seg_array.specs.Calls.{MayPlanGrowth}
 use Rattle.seg_array.specs.Growth.{next_pointer_at}

@@ -5,12 +5,12 @@ use Rattle.std.proofs.lemmas.Nat.{pow_pos}
 use Rattle.std.proofs.lemmas.Bool.{cases_lt}
 use Rattle.std.proofs.lemmas.Grind.{flat_map-append}
 use Rattle.pm_model.specs.declared.action.Action.{Action}
-use Rattle.pm_model.specs.Pointer.{pointer_word}
-use Rattle.pm_model.specs.Places.{page_at, page_count, place_in}
+use Rattle.image_layout.specs.Pointer.{pointer_word}
+use Rattle.image_layout.specs.Places.{page_at, page_count, place_in}
 use Rattle.pm_model.specs.Device.{Device, IsWhole}
 use Rattle.pm_model.specs.Plans.{Part, plan_of, finished, part_actions}
-use Rattle.pm_model.specs.Blocks.{Block, slot_words, descriptor_of, class_of, is_free_page, live_blocks}
-use Rattle.pm_model.proofs.Heap.{slot_fits, page_of_block, small_class, IsSmallOf, IsBigOf, free_pages_unused}
+use Rattle.image_layout.specs.Blocks.{Block, slot_words, descriptor_of, class_of, is_free_page, live_blocks}
+use Rattle.image_layout.proofs.Heap.{slot_fits, page_of_block, small_class, IsSmallOf, IsBigOf, free_pages_unused}
 use Rattle.heap_big.specs.declared.run.Run.{Run}
 use Rattle.heap_big.specs.Fit.{TakesBestFit}
 use Rattle.heap_palloc.specs.Parts.{big_allocation_parts}
@@ -24,7 +24,7 @@ use Rattle.heap_palloc.proofs.GivenBack.{cleaned, cleaned_forgets, cleaned_may, 
 use Rattle.heap_palloc.proofs.Dests.{dest_place, big_heap_page}
 use Rattle.heap_palloc.proofs.SameHeaps.{index_kept}
 use Rattle.heap_palloc.proofs.Lengths.{taking_length}
-use Rattle.pm_model.specs.Arrays.{chunk_pages, chunk_words, chunk_count}
+use Rattle.image_layout.specs.Arrays.{chunk_pages, chunk_words, chunk_count}
 use Rattle.seg_array.specs.Growth.{Growth, next_pointer_at, next_chunk, allocating_parts, publishing_parts, growth_parts, MayGrow}
 use Rattle.seg_array.specs.Calls.{MayPlanGrowth, OwnsNext, IsChunkPlanned, IsGrowthPlanned}
 use Rattle.seg_array.proofs.Headers.{NamesChunk, owned, at_most_12}

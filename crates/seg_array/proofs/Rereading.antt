@@ -3,14 +3,14 @@ use Rattle.std.proofs.Common.{◌≡◌, ⊎_elim, inl, inr, ◌⊎◌, ℕ, zer
 use Rattle.std.specs.Prelude.{Contains}
 use Rattle.std.specs.List.{range_with_len, filter}
 use Rattle.std.proofs.lemmas.Nat.{pow_pos}
-use Rattle.pm_model.specs.Fixed.{descriptor_at, lane_op_at}
-use Rattle.pm_model.specs.Places.{page_of, page_at, page_count}
+use Rattle.image_layout.specs.Fixed.{descriptor_at, lane_op_at}
+use Rattle.image_layout.specs.Places.{page_of, page_at, page_count}
 use Rattle.pm_model.specs.Plans.{Part, store, unless_empty}
-use Rattle.pm_model.specs.Blocks.{Block, slot_words, says_big, descriptor_of, class_of, is_inside, is_small_page, live_blocks}
-use Rattle.pm_model.proofs.Heap.{slot_fits, page_of_block, small_class, big_pages, big_live, IsSmallOf, IsBigOf}
+use Rattle.image_layout.specs.Blocks.{Block, slot_words, says_big, descriptor_of, class_of, is_inside, is_small_page, live_blocks}
+use Rattle.image_layout.proofs.Heap.{slot_fits, page_of_block, small_class, big_pages, big_live, IsSmallOf, IsBigOf}
 use Rattle.heap_palloc.specs.Parts.{allocation_parts, forget_given_back, big_allocation_parts}
 use Rattle.heap_palloc.specs.Law.{IsOwnerPlace, IsHeapPage, Pages, pages_allocation, MayTakeRun}
-use Rattle.pm_model.specs.Arrays.{chunk_pages, chunk_count}
+use Rattle.image_layout.specs.Arrays.{chunk_pages, chunk_count}
 use Rattle.seg_array.specs.Growth.{Growth, next_pointer_at, next_chunk, chunk_block, allocating_parts, publishing_parts, growth_parts, OwnsChunk, MayGrow, SameGrowthRead}
 
 -- ── what is read of the chunk ──

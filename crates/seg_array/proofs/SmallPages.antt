@@ -2,11 +2,11 @@
 use Rattle.std.proofs.Common.{◌≡◌, ◌≢◌, ◌⊎◌, inl, inr, ⊎_elim, ℕ, ◌+◌, ◌-◌, ◌/◌, ◌%◌, ◌<◌, ◌≤◌, true, false, not, leb, List, length, set, sym, ◌∙◌, ap, subst, arith}
 use Rattle.std.proofs.lemmas.List.{get_or-set_same, get_or-set_other, length-set, get_or_past}
 use Rattle.std.proofs.lemmas.Bool.{cases_eq, cases_lt, both_ways, not-true, not_from_false, and_right, and_parts, and_from}
-use Rattle.pm_model.specs.Fixed.{descriptor_at}
-use Rattle.pm_model.specs.Places.{page_at}
+use Rattle.image_layout.specs.Fixed.{descriptor_at}
+use Rattle.image_layout.specs.Places.{page_at}
 use Rattle.pm_model.specs.Plans.{finished}
-use Rattle.pm_model.specs.Blocks.{says_small, descriptor_of, bitmap_of, is_inside, is_free_page, is_small_page}
-use Rattle.pm_model.proofs.Heap.{small_class}
+use Rattle.image_layout.specs.Blocks.{says_small, descriptor_of, bitmap_of, is_inside, is_free_page, is_small_page}
+use Rattle.image_layout.proofs.Heap.{small_class}
 use Rattle.heap_palloc.specs.Parts.{allocation_parts, big_allocation_parts}
 use Rattle.heap_palloc.specs.Law.{Pages, pages_allocation, MayTakeRun}
 use Rattle.heap_palloc.proofs.LiveBlocks.{SameInside, is_inside-same, is_small_page-same}

@@ -4,17 +4,17 @@ use Rattle.std.specs.Prelude.{Contains}
 use Rattle.std.proofs.lemmas.List.{get_or-set_same, get_or-set_other, length-set}
 use Rattle.std.proofs.lemmas.Bool.{cond-false, ne_eqb, or_from, le-ltb}
 use Rattle.pm_model.specs.declared.action.Action.{Action}
-use Rattle.pm_model.specs.Fixed.{descriptor_at}
-use Rattle.pm_model.specs.Places.{page_at, place_in, is_null_or_pointer_to}
-use Rattle.pm_model.specs.Fresh.{fresh_word, fresh_words}
+use Rattle.image_layout.specs.Fixed.{descriptor_at}
+use Rattle.image_layout.specs.Places.{page_at, place_in, is_null_or_pointer_to}
+use Rattle.image_layout.specs.Fresh.{fresh_word, fresh_words}
 use Rattle.pm_model.specs.Device.{Device, IsClean, IsWhole}
 use Rattle.pm_model.specs.Plans.{Part, IsPlan, MayPlay, at_rest, run}
-use Rattle.pm_model.specs.Blocks.{descriptor_of, says_big, inside_after, inside_at, is_inside, big_block, live_blocks}
-use Rattle.pm_model.specs.Checks.{Keeps}
-use Rattle.pm_model.proofs.Heap.{big_live}
+use Rattle.image_layout.specs.Blocks.{descriptor_of, says_big, inside_after, inside_at, is_inside, big_block, live_blocks}
+use Rattle.image_layout.specs.Checks.{Keeps}
+use Rattle.image_layout.proofs.Heap.{big_live}
 use Rattle.pm_model.proofs.Alone.{may_play-plan}
 use Rattle.pm_model.proofs.Cuts.{length-finished}
-use Rattle.pm_model.proofs.FreshImage.{length-fresh_words, get_or-fresh_words}
+use Rattle.image_layout.proofs.FreshImage.{length-fresh_words, get_or-fresh_words}
 use Rattle.heap_palloc.specs.Index.{HeapIndex, IsIndexOf}
 use Rattle.heap_palloc.specs.Law.{IsHeapPage}
 use Rattle.heap_palloc.specs.Calls.{KeepsHeapRules}
@@ -23,7 +23,7 @@ use Rattle.heap_palloc.proofs.LiveBlocks.{SameHeap}
 use Rattle.heap_palloc.proofs.RulesKept.{heads_rules, fresh_rules}
 use Rattle.heap_palloc.proofs.Settled.{whole_may, whole_played}
 use Rattle.heap_palloc.proofs.SameHeaps.{rules_same}
-use Rattle.pm_model.specs.Arrays.{chunk_words, chunk_count, chunk_pointer_at, is_chunk_pointer, array_rule}
+use Rattle.image_layout.specs.Arrays.{chunk_words, chunk_count, chunk_pointer_at, is_chunk_pointer, array_rule}
 use Rattle.seg_array.specs.Growth.{next_pointer_at, growth_parts}
 use Rattle.seg_array.specs.Calls.{MayPlanGrowth, IsGrowthPlanned}
 use Rattle.seg_array.specs.TestImage.{test_image, owned_image, IsReady}

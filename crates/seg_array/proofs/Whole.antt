@@ -2,11 +2,11 @@
 use Rattle.std.proofs.Common.{◌≡◌, ◌≢◌, ◌⊎◌, inl, inr, ⊎_elim, ℕ, ◌+◌, ◌*◌, ◌/◌, ◌%◌, ◌<◌, eqb, List, [], ◌++◌, length, get_or, refl, sym, ◌∙◌, ap, subst, arith}
 use Rattle.std.proofs.lemmas.Bool.{cond-true, cond-false, eq-eqb, ne_eqb}
 use Rattle.pm_model.specs.declared.action.Action.{Action}
-use Rattle.pm_model.specs.Pointer.{pointer_word}
-use Rattle.pm_model.specs.Places.{page_of, page_at}
+use Rattle.image_layout.specs.Pointer.{pointer_word}
+use Rattle.image_layout.specs.Places.{page_of, page_at}
 use Rattle.pm_model.specs.Device.{Device}
 use Rattle.pm_model.specs.Plans.{Part, EachCut, IsPlan, finished, Play, IsPlaying, IsCrashImageWithin, IsTakenBack}
-use Rattle.pm_model.specs.Blocks.{Block, live_blocks}
+use Rattle.image_layout.specs.Blocks.{Block, live_blocks}
 use Rattle.pm_model.proofs.Cuts.{store_part, finished-append, plan-append, each_cut-append, each_cut-map}
 use Rattle.pm_model.proofs.PlanLaw.{plan_survives_parts, plan_ended_parts}
 use Rattle.heap_palloc.specs.Lane.{mended_lane}
@@ -17,7 +17,7 @@ use Rattle.heap_palloc.proofs.Stages.{pointer-some}
 use Rattle.heap_palloc.proofs.Changes.{change_settles}
 use Rattle.heap_palloc.proofs.GivenBack.{take_run_plan, take_run_allocates}
 use Rattle.heap_palloc.proofs.Settled.{gained_live}
-use Rattle.pm_model.specs.Arrays.{chunk_pages, chunk_count}
+use Rattle.image_layout.specs.Arrays.{chunk_pages, chunk_count}
 use Rattle.seg_array.specs.Growth.{Growth, next_pointer_at, next_chunk, chunk_block, allocating_parts, publishing_parts, growth_parts, OwnsChunk, MayGrow}
 use Rattle.seg_array.specs.Shown.{IsUngrown, IsGrown}
 use Rattle.seg_array.proofs.Punches.{punches-part}

@@ -1,11 +1,11 @@
 -- What planning a growth relies on, and what it gives.
 use Rattle.std.specs.Prelude.{◌≡◌, ◌≢◌, ◌⊎◌, ℕ, ◌+◌, ◌<◌, ◌≤◌, List, ◌++◌, Contains, slice_index}
 use Rattle.pm_model.specs.declared.action.Action.{Action}
-use Rattle.pm_model.specs.Fixed.{lane_op_at}
-use Rattle.pm_model.specs.Places.{place_in}
+use Rattle.image_layout.specs.Fixed.{lane_op_at}
+use Rattle.image_layout.specs.Places.{place_in}
 use Rattle.pm_model.specs.Plans.{plan_of, finished}
-use Rattle.pm_model.specs.Blocks.{Block, live_blocks}
-use Rattle.pm_model.specs.Checks.{Keeps}
+use Rattle.image_layout.specs.Blocks.{Block, live_blocks}
+use Rattle.image_layout.specs.Checks.{Keeps}
 use Rattle.heap_big.specs.declared.run.Run.{Run}
 use Rattle.heap_big.specs.Fit.{TakesBestFit}
 use Rattle.heap_palloc.specs.declared.error.AllocError.{AllocError}
@@ -14,7 +14,7 @@ use Rattle.heap_palloc.specs.Index.{HeapIndex, IsIndexOf}
 use Rattle.heap_palloc.specs.Calls.{KeepsHeapRules}
 use Rattle.seg_array.specs.declared.error.GrowError.{GrowError}
 use Rattle.seg_array.specs.declared.error.GrowError.TheVariants.{Full, NoMemory}
-use Rattle.pm_model.specs.Arrays.{chunk_pages, chunk_words, chunk_count, array_rule}
+use Rattle.image_layout.specs.Arrays.{chunk_pages, chunk_words, chunk_count, array_rule}
 use Rattle.seg_array.specs.Growth.{next_pointer_at, next_chunk, allocating_parts, growth_parts, MayGrow}
 
 -- the header lies in a live block

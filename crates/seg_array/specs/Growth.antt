@@ -3,14 +3,14 @@
 use Rattle.std.specs.Prelude.{◌≡◌, ◌⊎◌, ℕ, ◌+◌, ◌*◌, ◌%◌, ◌<◌, ◌≤◌, ◌==◌, if◌then◌else◌, List, [], ◌∷◌, ◌++◌, Contains, map, length, slice_index}
 use Rattle.std.specs.List.{range_with_len}
 use Rattle.pm_model.specs.declared.action.Action.TheVariants.{Punch}
-use Rattle.pm_model.specs.Fixed.{lane_op_at}
-use Rattle.pm_model.specs.Pointer.{pointer_word}
-use Rattle.pm_model.specs.Places.{page_of, page_at, page_count}
+use Rattle.image_layout.specs.Fixed.{lane_op_at}
+use Rattle.image_layout.specs.Pointer.{pointer_word}
+use Rattle.image_layout.specs.Places.{page_of, page_at, page_count}
 use Rattle.pm_model.specs.Plans.{Part, one_store}
-use Rattle.pm_model.specs.Blocks.{Block, descriptor_of, is_inside, is_small_page, live_blocks}
+use Rattle.image_layout.specs.Blocks.{Block, descriptor_of, is_inside, is_small_page, live_blocks}
 use Rattle.heap_palloc.specs.Parts.{big_allocation_parts}
 use Rattle.heap_palloc.specs.Law.{IsOwnerPlace, IsHeapPage, Pages, pages_allocation, MayTakeRun}
-use Rattle.pm_model.specs.Arrays.{chunk_pages, chunk_count, chunk_pointer_at}
+use Rattle.image_layout.specs.Arrays.{chunk_pages, chunk_count, chunk_pointer_at}
 
 -- through this lane the array with this header grows by the chunk that begins at a page
 pub record Growth : Type 0 where

@@ -1,11 +1,11 @@
 -- What the words of an image show of an array that grows, once the lane is mended.
 use Rattle.std.specs.Prelude.{◌≡◌, ◌≢◌, ◌⊎◌, ℕ, ◌+◌, ◌<◌, ◌≤◌, List, length, slice_index}
-use Rattle.pm_model.specs.Pointer.{pointer_word}
-use Rattle.pm_model.specs.Places.{page_at}
+use Rattle.image_layout.specs.Pointer.{pointer_word}
+use Rattle.image_layout.specs.Places.{page_at}
 use Rattle.pm_model.specs.Plans.{finished}
-use Rattle.pm_model.specs.Blocks.{live_blocks}
+use Rattle.image_layout.specs.Blocks.{live_blocks}
 use Rattle.heap_palloc.specs.Law.{IsElsewhere}
-use Rattle.pm_model.specs.Arrays.{chunk_pages, capacity_of, chunk_count, capacity, place_of, array_word}
+use Rattle.image_layout.specs.Arrays.{chunk_pages, capacity_of, chunk_count, capacity, place_of, array_word}
 use Rattle.seg_array.specs.Growth.{Growth, next_pointer_at, growth_parts}
 
 -- a word outside so many pages from one on

@@ -1,7 +1,7 @@
 -- The images on which the tests grow an array whose header stands at place 2064.
 use Rattle.std.specs.Prelude.{ℕ, ◌≤◌, List, length, slice_set}
 use Rattle.pm_model.specs.Device.{Device, IsClean}
-use Rattle.pm_model.specs.Fresh.{fresh_words}
+use Rattle.image_layout.specs.Fresh.{fresh_words}
 use Rattle.heap_palloc.specs.Index.{HeapIndex}
 use Rattle.seg_array.specs.Calls.{MayPlanGrowth}
 

@@ -1,8 +1,8 @@
 // How many words an array has, and where they stand.
 ghost use Rattle.std.specs.Prelude.{◌≡◌, ◌+◌, ◌<◌, ◌≤◌, length};
-ghost use Rattle.pm_model.specs.Checks.{Keeps};
-ghost use Rattle.pm_model.specs.Arrays as arrays;
-ghost use Rattle.pm_model.specs.Arrays.{array_rule, capacity_of};
+ghost use Rattle.image_layout.specs.Checks.{Keeps};
+ghost use Rattle.image_layout.specs.Arrays as arrays;
+ghost use Rattle.image_layout.specs.Arrays.{array_rule, capacity_of};
 
 use pm_model::{Memory, Place, chunk_capacity, chunk_of, chunk_pointer, named_place};
 

@@ -1,12 +1,12 @@
 // Planning the growth of an array.
 ghost use Rattle.std.specs.Prelude.{◌≡◌, ◌≢◌, ◌⊎◌, ℕ, ◌+◌, ◌*◌, ◌<◌, ◌≤◌, ◌++◌, List, Err, IfOk, IfErr, OnErr, length, slice_index};
 ghost use Rattle.pm_model.specs.Plans.{plan_of};
-ghost use Rattle.pm_model.specs.Blocks.{longest_free_run};
+ghost use Rattle.image_layout.specs.Blocks.{longest_free_run};
 ghost use Rattle.heap_big.specs.declared.run.Run.{Run};
 ghost use Rattle.heap_big.specs.Fit.{TakesBestFit};
 ghost use Rattle.heap_palloc.specs.Index.{IsIndexOf};
 ghost use Rattle.seg_array.specs.declared.error.GrowError.TheVariants.{ArrayFull, Full, NoMemory as OutOfMemory};
-ghost use Rattle.pm_model.specs.Arrays.{chunk_count, chunk_pages};
+ghost use Rattle.image_layout.specs.Arrays.{chunk_count, chunk_pages};
 ghost use Rattle.seg_array.specs.Growth.{next_pointer_at, punches, publishing_parts};
 ghost use Rattle.seg_array.specs.Calls.{MayPlanGrowth, IsGrowthPlanned, IsChunkPlanned};
 

@@ -1,9 +1,9 @@
 ghost use Rattle.std.specs.Prelude.{◌≡◌, ℕ, ◌*◌, ◌<◌, ◌≤◌, IfOk, length};
-ghost use Rattle.pm_model.specs.Checks.{Keeps};
+ghost use Rattle.image_layout.specs.Checks.{Keeps};
 ghost use Rattle.pm_model.specs.Plain.{device_of};
 ghost use Rattle.pm_model.specs.Plans.{MayPlay, at_rest};
-ghost use Rattle.pm_model.specs.Arrays as arrays;
-ghost use Rattle.pm_model.specs.Arrays.{array_rule};
+ghost use Rattle.image_layout.specs.Arrays as arrays;
+ghost use Rattle.image_layout.specs.Arrays.{array_rule};
 ghost use Rattle.seg_array.specs.TestImage.{test_image, owned_image, IsReady};
 
 use crate::*;

@@ -4,7 +4,7 @@ use Rattle.std.specs.Prelude.{IfSome, Result, nat_lt}
 use Rattle.std.proofs.lemmas.Bool.Decides.{nat_tests}
 use Rattle.io_edge.specs.declared.reading.TheConstants.{LIMIT}
 use Rattle.pm_model.specs.declared.action.Keep.{Keep}
-use Rattle.pm_model.specs.Checks.{Fault}
+use Rattle.image_layout.specs.Checks.{Fault}
 use Rattle.pm_image.specs.declared.error.ImageError.{ImageError}
 use Rattle.pm_image.specs.Fault.{first_fault}
 use Rattle.pm_image.specs.Spelling.{spelling}

@@ -4,7 +4,7 @@ use Rattle.std.specs.Io.KnownBytes.{Appends, Consumes, IsAtEnd}
 use Rattle.io_edge.specs.Transfer.{Loses}
 use Rattle.io_edge.specs.declared.reading.TheConstants.{LIMIT}
 use Rattle.pm_model.specs.declared.action.Keep.{Keep}
-use Rattle.pm_model.specs.Checks.{Fault}
+use Rattle.image_layout.specs.Checks.{Fault}
 use Rattle.pm_model.specs.Device.{IsCrashImage, image_of}
 use Rattle.pm_image.specs.declared.error.ImageError.{ImageError}
 use Rattle.pm_image.specs.Fault.{first_fault}

@@ -8,12 +8,12 @@ use Rattle.std.proofs.lemmas.List.Elements.{Contains-append_cases, Contains-get_
 use Rattle.std.proofs.lemmas.List.FromFn.{length-range_with_len, get_or-range_with_len, get_or-map-range_with_len}
 use Rattle.std.proofs.lemmas.List.Kept.{AllPairs-cons, AllPairs-filter}
 use Rattle.mv_model.specs.State.{RowKey, CreatedRow, WriteSet, no_writes}
-use Rattle.pm_model.specs.Places.{below}
-use Rattle.pm_model.specs.Records.{columns_at, column_at, created_header, ended_header}
-use Rattle.pm_model.specs.Arrays.{capacity, array_word}
-use Rattle.pm_model.specs.Tables.{table_count, table_block, columns_of}
-use Rattle.pm_model.specs.Objects.{last_commit}
-use Rattle.pm_model.proofs.Members.{below-Contains, Contains-below, Contains-here, Contains-there, Contains-flat_map, flat_map-Contains, Contains-map, map-Contains, Contains-filter, filter-Contains}
+use Rattle.image_layout.specs.Places.{below}
+use Rattle.image_layout.specs.Records.{columns_at, column_at, created_header, ended_header}
+use Rattle.image_layout.specs.Arrays.{capacity, array_word}
+use Rattle.image_layout.specs.Tables.{table_count, table_block, columns_of}
+use Rattle.image_layout.specs.Objects.{last_commit}
+use Rattle.image_layout.proofs.Members.{below-Contains, Contains-below, Contains-here, Contains-there, Contains-flat_map, flat_map-Contains, Contains-map, map-Contains, Contains-filter, filter-Contains}
 use Rattle.shown_state.specs.LogicalState.{row_value, rows_stamped, created_row, commit_of, logical_state}
 use Rattle.shown_state.specs.CommitLaws.{IsCommit, shown_commit, row_key, IsStamped, IsBefore, CommitsAreCounted, CreatedAreStamped, EndedAreStamped, HasItsValues, CreatedHaveTheirValues, CommitsAscend}
 

@@ -1,7 +1,7 @@
 -- The worked images show their states.
 use Rattle.std.proofs.Common.{refl}
-use Rattle.pm_model.specs.Arrays.{chunk_of}
-use Rattle.pm_model.specs.Objects.{entry_places}
+use Rattle.image_layout.specs.Arrays.{chunk_of}
+use Rattle.image_layout.specs.Objects.{entry_places}
 use Rattle.shown_state.specs.LogicalState.{name_at, logical_state}
 use Rattle.shown_state.specs.CommitLaws.{one_table_image, OneTableIsShown, two_commit_image, TwoCommitsAreShown}
 

@@ -6,15 +6,15 @@ use Rattle.std.proofs.lemmas.List.{append-nil}
 use Rattle.std.proofs.lemmas.Bool.{false≢true}
 use Rattle.std.proofs.lemmas.List.Elements.{All-nil, All-from_recursion}
 use Rattle.pm_model.specs.Device.{Device}
-use Rattle.pm_model.specs.Places.{below}
+use Rattle.image_layout.specs.Places.{below}
 use Rattle.pm_model.specs.Plans.{Part, Play, IsPlan, EachCut, IsCrashImageWithin, IsTakenBack, finished, run, at_rest}
 use Rattle.pm_model.specs.Needed.{needed_parts, Mending, after_mending}
-use Rattle.pm_model.specs.Checks.{Keeps, Fault}
-use Rattle.pm_model.specs.EntryRules.{entry_rules, entry_fault, KeepsEntryRules}
+use Rattle.image_layout.specs.Checks.{Keeps, Fault}
+use Rattle.image_layout.specs.EntryRules.{entry_rules, entry_fault, KeepsEntryRules}
 use Rattle.pm_model.proofs.Cuts.{finished-append, length-finished, plan-append, each_cut-append, each_cut-end, each_cut-map}
 use Rattle.pm_model.proofs.Alone.{IsPlan-size, cached-run, length-words_after, length-durable-run}
 use Rattle.pm_model.proofs.PlanLaw.{plan_begins, plan_plays_on, plan_survives_parts}
-use Rattle.pm_model.proofs.Faults.{first_fault-none}
+use Rattle.image_layout.proofs.Faults.{first_fault-none}
 use Rattle.shown_state.specs.Mending.{Reached, after_parts, mend_if, mend, mendings, lane_mending, split_mending, slot_mending, text_mending, last_mending, undo_mending, close_mending, clear_mending, reached_by_opening}
 use Rattle.shown_state.specs.Fits.{Fits}
 use Rattle.shown_state.specs.OpeningParts.{parts_of, opening_parts, IsImage, FitsStill, StepKeeps}

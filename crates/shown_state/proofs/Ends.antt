@@ -6,22 +6,22 @@ use Rattle.std.proofs.lemmas.Bool.{both_ways, cases_Bool, cases_eq, eqb-true, eq
 use Rattle.std.proofs.lemmas.List.{length-append, length-map, map-append, append_assoc, get_or_append_left, take_all}
 use Rattle.std.proofs.lemmas.List.Elements.{All-nil, All-cons, All-contains, All-append, Contains-append_cases, Contains-get_or}
 use Rattle.std.proofs.lemmas.List.FromFn.{length-range_with_len, get_or-range_with_len}
-use Rattle.pm_model.specs.Fixed.{commit_word_at, lane_op_at, last_at, state_at}
-use Rattle.pm_model.specs.Pointer.{pointer_word}
-use Rattle.pm_model.specs.Places.{below, place_in, is_pointer}
-use Rattle.pm_model.specs.Records.{created_header, dictionary_header, ended_header, codes_header, high_at, new_leaf_at, split_leaf_at}
-use Rattle.pm_model.specs.Arrays.{capacity, place_of, array_word}
-use Rattle.pm_model.specs.Blocks.{Block, live_blocks}
-use Rattle.pm_model.specs.Checks.{Check, check, Keeps}
-use Rattle.pm_model.specs.Tables.{table_count, table_block, table_blocks, columns_of, all_columns, is_text}
-use Rattle.pm_model.specs.Objects.{entry_places, last_commit}
-use Rattle.pm_model.specs.Trees.{dictionary_length}
-use Rattle.pm_model.specs.EntryRules.{is_among, text_columns}
-use Rattle.pm_model.specs.SoundRules.{zero_check, idle_rule, split_log_rule, closed_rule, distinct_checks, single_owner_rule, owned_rule, spare_slots, spare_slot_rule, no_commit, is_commit, is_created, is_ended, row_check, row_checks, row_headers, stamp_checks, stamp_rule, row_code_check, committed_rows, row_code_rule, owner_rule, IsSound}
-use Rattle.pm_model.specs.Owners.{Owner, word_of, owns_block, owner_words, leaf_owner, new_leaf_owners, next_table_slots, next_text_slots, unfinished_slots, firm_owners, owner_places, is_replaced_in, is_replaced, NameApart, busy_lanes, lane_block}
-use Rattle.pm_model.proofs.Faults.{Holds, mapped_hold}
-use Rattle.pm_model.proofs.Members.{Contains-below, Contains-here, Contains-there, Contains-cons, Contains-nil, Contains-flat_map, flat_map-Contains, Contains-map, map-Contains, Contains-filter}
-use Rattle.pm_model.proofs.TableSlots.{few_tables, one_table}
+use Rattle.image_layout.specs.Fixed.{commit_word_at, lane_op_at, last_at, state_at}
+use Rattle.image_layout.specs.Pointer.{pointer_word}
+use Rattle.image_layout.specs.Places.{below, place_in, is_pointer}
+use Rattle.image_layout.specs.Records.{created_header, dictionary_header, ended_header, codes_header, high_at, new_leaf_at, split_leaf_at}
+use Rattle.image_layout.specs.Arrays.{capacity, place_of, array_word}
+use Rattle.image_layout.specs.Blocks.{Block, live_blocks}
+use Rattle.image_layout.specs.Checks.{Check, check, Keeps}
+use Rattle.image_layout.specs.Tables.{table_count, table_block, table_blocks, columns_of, all_columns, is_text}
+use Rattle.image_layout.specs.Objects.{entry_places, last_commit}
+use Rattle.image_layout.specs.Trees.{dictionary_length}
+use Rattle.image_layout.specs.EntryRules.{is_among, text_columns}
+use Rattle.image_layout.specs.SoundRules.{zero_check, idle_rule, split_log_rule, closed_rule, distinct_checks, single_owner_rule, owned_rule, spare_slots, spare_slot_rule, no_commit, is_commit, is_created, is_ended, row_check, row_checks, row_headers, stamp_checks, stamp_rule, row_code_check, committed_rows, row_code_rule, owner_rule, IsSound}
+use Rattle.image_layout.specs.Owners.{Owner, word_of, owns_block, owner_words, leaf_owner, new_leaf_owners, next_table_slots, next_text_slots, unfinished_slots, firm_owners, owner_places, is_replaced_in, is_replaced, NameApart, busy_lanes, lane_block}
+use Rattle.image_layout.proofs.Faults.{Holds, mapped_hold}
+use Rattle.image_layout.proofs.Members.{Contains-below, Contains-here, Contains-there, Contains-cons, Contains-nil, Contains-flat_map, flat_map-Contains, Contains-map, map-Contains, Contains-filter}
+use Rattle.image_layout.proofs.TableSlots.{few_tables, one_table}
 use Rattle.shown_state.specs.Fits.{spoken_for, later_slots, later_slot_rule, is_undecided, undecided_bound, used_up, IsUndecided, IsEnded, HasValue, RowsFit, Fits}
 use Rattle.shown_state.specs.LogicalState.{created_rows, row_bound}
 use Rattle.shown_state.specs.StepLaws.{AreClear}

@@ -4,9 +4,9 @@ use Rattle.std.specs.List.{flat_map}
 use Rattle.std.proofs.lemmas.Bool.{cases_lt, ne_eqb, le-ltb, or_from}
 use Rattle.std.proofs.lemmas.List.{get_or_append_left, get_or-append-add, get_or-replicate, length-append}
 use Rattle.std.proofs.lemmas.List.FromFn.{length-range_with_len}
-use Rattle.pm_model.specs.Places.{below}
-use Rattle.pm_model.specs.Fresh.{magic_number, fresh_word, fresh_words}
-use Rattle.pm_model.proofs.FreshImage.{fresh_words_is}
+use Rattle.image_layout.specs.Places.{below}
+use Rattle.image_layout.specs.Fresh.{magic_number, fresh_word, fresh_words}
+use Rattle.image_layout.proofs.FreshImage.{fresh_words_is}
 
 -- the first segment: four reserved pages, the magic number and the version
 unfoldable pub first_segment : List ℕ

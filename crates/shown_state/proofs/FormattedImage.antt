@@ -5,20 +5,20 @@ use Rattle.std.specs.List.{range_with_len}
 use Rattle.std.proofs.lemmas.Bool.{cases_Bool, not-true, ltb-true, ltb-false, leb-true, eqb-true, eqb-false, eq-eqb, and_parts, or_cases, or_parts}
 use Rattle.std.proofs.lemmas.List.{get_or_append_left, get_or-replicate}
 use Rattle.std.proofs.lemmas.List.Elements.{All-map, Contains-get_or}
-use Rattle.pm_model.specs.Fixed.{descriptor_at}
-use Rattle.pm_model.specs.Places.{below, page_at, page_count}
+use Rattle.image_layout.specs.Fixed.{descriptor_at}
+use Rattle.image_layout.specs.Places.{below, page_at, page_count}
 use Rattle.shown_state.proofs.Formatted.{first_segment, other_segment, formatted, length-formatted, word_first, word_other, formatted_is_fresh}
-use Rattle.pm_model.specs.Fresh.{fresh_words}
-use Rattle.pm_model.specs.Blocks.{Block, descriptor_of, bitmap_of, slots_of, class_of, says_small, says_big, inside_after, inside_at, is_inside, is_small_page, is_given_back, is_reserved, live_blocks}
-use Rattle.pm_model.specs.Checks.{check, Keeps}
-use Rattle.pm_model.specs.Objects.{entry_places}
-use Rattle.pm_model.specs.Owners.{owner_words}
-use Rattle.pm_model.specs.EntryRules.{magic_rule, version_rule, last_rule, table_count_rule, table_slot_rule, arrays_rule, tree_rule, name_rule, text_key_rule, object_rule, objects_rule, entries_rule, KeepsEntryRules}
-use Rattle.pm_model.specs.SoundRules.{idle_rule, split_log_rule, closed_rule, owner_rule, single_owner_rule, owned_rule, order_rule, fingerprint_rule, code_rule, text_rule, spare_slot_rule, stamp_rule, row_code_rule, zero_check, given_back_rule, distinct_name_rule, IsSound}
-use Rattle.pm_model.proofs.Faults.{Holds, all_hold, mapped_hold}
-use Rattle.pm_model.proofs.Members.{Contains-below, Contains-flat_map, Contains-filter}
-use Rattle.pm_model.proofs.Heap.{page_of_block}
-use Rattle.pm_model.specs.HeapRules.{is_descriptor, reserved_rule, descriptor_rule, bitmap_rule, lane_rule}
+use Rattle.image_layout.specs.Fresh.{fresh_words}
+use Rattle.image_layout.specs.Blocks.{Block, descriptor_of, bitmap_of, slots_of, class_of, says_small, says_big, inside_after, inside_at, is_inside, is_small_page, is_given_back, is_reserved, live_blocks}
+use Rattle.image_layout.specs.Checks.{check, Keeps}
+use Rattle.image_layout.specs.Objects.{entry_places}
+use Rattle.image_layout.specs.Owners.{owner_words}
+use Rattle.image_layout.specs.EntryRules.{magic_rule, version_rule, last_rule, table_count_rule, table_slot_rule, arrays_rule, tree_rule, name_rule, text_key_rule, object_rule, objects_rule, entries_rule, KeepsEntryRules}
+use Rattle.image_layout.specs.SoundRules.{idle_rule, split_log_rule, closed_rule, owner_rule, single_owner_rule, owned_rule, order_rule, fingerprint_rule, code_rule, text_rule, spare_slot_rule, stamp_rule, row_code_rule, zero_check, given_back_rule, distinct_name_rule, IsSound}
+use Rattle.image_layout.proofs.Faults.{Holds, all_hold, mapped_hold}
+use Rattle.image_layout.proofs.Members.{Contains-below, Contains-flat_map, Contains-filter}
+use Rattle.image_layout.proofs.Heap.{page_of_block}
+use Rattle.image_layout.specs.HeapRules.{is_descriptor, reserved_rule, descriptor_rule, bitmap_rule, lane_rule}
 
 formatted_pages : (segments : ℕ) → 0 < segments → page_count (formatted segments) ≡ 64 * segments
 formatted_pages segments some = omega (arith, length-formatted segments some)

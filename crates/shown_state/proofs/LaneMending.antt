@@ -3,16 +3,16 @@ use Rattle.std.proofs.Common.{◌≡◌, ◌≢◌, ◌⊎◌, inl, inr, ⊎_eli
 use Rattle.std.proofs.lemmas.List.{get_or-set_same, get_or-set_other, length-set, set-get_or}
 use Rattle.std.proofs.lemmas.List.Elements.{All-contains}
 use Rattle.std.proofs.lemmas.Bool.{cases_Bool, cases_eq, eqb-true, eqb-false, ltb-true, leb-true, ltb-false, eq-eqb, ne_eqb, and_parts, not-true, or_cases, or_left, or_right, both_ways, cond-true, cond-false}
-use Rattle.pm_model.specs.Fixed.{descriptor_at, lane_op_at, lane_dest_at, lane_block_at}
-use Rattle.pm_model.specs.Pointer.{pointer_word}
-use Rattle.pm_model.specs.Places.{below, page_of, page_at, place_in, is_pointer}
+use Rattle.image_layout.specs.Fixed.{descriptor_at, lane_op_at, lane_dest_at, lane_block_at}
+use Rattle.image_layout.specs.Pointer.{pointer_word}
+use Rattle.image_layout.specs.Places.{below, page_of, page_at, place_in, is_pointer}
 use Rattle.pm_model.specs.Plans.{Part, IsPlan, EachCut, finished, one_store}
 use Rattle.pm_model.specs.Needed.{needed_parts, AllStores, StoresOfParts, after_mending}
-use Rattle.pm_model.specs.Blocks.{slots_of, slot_in, class_of, is_reserved, is_small_page, is_slot, is_block_pointer}
-use Rattle.pm_model.specs.Checks.{Check, check, Keeps}
-use Rattle.pm_model.specs.HeapRules.{lane_rule, is_lane}
+use Rattle.image_layout.specs.Blocks.{slots_of, slot_in, class_of, is_reserved, is_small_page, is_slot, is_block_pointer}
+use Rattle.image_layout.specs.Checks.{Check, check, Keeps}
+use Rattle.image_layout.specs.HeapRules.{lane_rule, is_lane}
 use Rattle.pm_model.proofs.Cuts.{cut-one_store, finished-append, length-finished}
-use Rattle.pm_model.proofs.Members.{below-Contains, map-Contains}
+use Rattle.image_layout.proofs.Members.{below-Contains, map-Contains}
 use Rattle.pm_model.proofs.NeededStores.{needed-finished, needed-cuts, needed-plan}
 use Rattle.heap_small.specs.Bitmap.{without_bit}
 use Rattle.heap_small.proofs.Bitmaps.{without_bit-same}

@@ -5,17 +5,17 @@ use Rattle.std.specs.List.{list_any, IsDistinct}
 use Rattle.std.proofs.lemmas.Bool.{both_ways, not-true, eqb-true, ne_eqb, and_parts, ltb-true, or_cases}
 use Rattle.std.proofs.lemmas.List.Elements.{All-head, All-tail, All-contains, recursion_from_All, Contains-get_or, Contains-append_left, Contains-append_right}
 use Rattle.std.proofs.lemmas.Map.Steps.{length-le_from_distinct_below}
-use Rattle.pm_model.specs.Pointer.{pointer_word}
-use Rattle.pm_model.specs.Places.{place_in, is_pointer, is_in_segment, is_pointer_to, is_null_or_pointer_to}
-use Rattle.pm_model.specs.Tables.{all_columns}
-use Rattle.pm_model.specs.Trees.{leaves_from, AreLeavesFrom, stored_leaves}
-use Rattle.pm_model.specs.Checks.{Check, check}
-use Rattle.pm_model.specs.EntryRules.{is_among, leaf_pointer_check, is_next, leaf_checks, is_split_leaf, tree_checks, tree_rule}
+use Rattle.image_layout.specs.Pointer.{pointer_word}
+use Rattle.image_layout.specs.Places.{place_in, is_pointer, is_in_segment, is_pointer_to, is_null_or_pointer_to}
+use Rattle.image_layout.specs.Tables.{all_columns}
+use Rattle.image_layout.specs.Trees.{leaves_from, AreLeavesFrom, stored_leaves}
+use Rattle.image_layout.specs.Checks.{Check, check}
+use Rattle.image_layout.specs.EntryRules.{is_among, leaf_pointer_check, is_next, leaf_checks, is_split_leaf, tree_checks, tree_rule}
 use Rattle.shown_state.specs.ImageLaws.{StoredLeavesAreWhole}
-use Rattle.pm_model.proofs.Heap.{Holds}
-use Rattle.pm_model.proofs.Members.{Contains-here, Contains-there, Contains-cons, Contains-nil, flat_map-Contains}
+use Rattle.image_layout.proofs.Heap.{Holds}
+use Rattle.image_layout.proofs.Members.{Contains-here, Contains-there, Contains-cons, Contains-nil, flat_map-Contains}
 use Rattle.shown_state.proofs.OneOwner.{Differ, among-true}
-use Rattle.pm_model.specs.Records.{first_leaf_at, split_leaf_at, new_leaf_at, next_leaf_at}
+use Rattle.image_layout.specs.Records.{first_leaf_at, split_leaf_at, new_leaf_at, next_leaf_at}
 
 distinct_from : (xs : List ℕ) → Differ xs → IsDistinct eqb xs
 unfolding IsDistinct

@@ -6,21 +6,21 @@ use Rattle.std.proofs.lemmas.Bool.{cases_Bool, both_ways, not-true, eqb-true, eq
 use Rattle.std.proofs.lemmas.List.{map-append}
 use Rattle.std.proofs.lemmas.List.Elements.{All-head, All-tail, All-contains, Contains-get_or, Contains-append_cases, Contains-append_left, Contains-append_right}
 use Rattle.std.proofs.lemmas.List.Sorted.{IsPermutation-refl, IsPermutation-sym, IsPermutation-trans, IsPermutation-cons, IsPermutation-middle}
-use Rattle.pm_model.specs.Pointer.{pointer_word}
-use Rattle.pm_model.specs.Places.{below, page_count, place_in, is_pointer}
-use Rattle.pm_model.specs.Blocks.{Block, slot_words, slots_of, descriptor_of, says_small, is_inside, is_small_page, is_big_head, class_of, small_block, used_slots, blocks_if, blocks_of_page, live_blocks, is_live}
-use Rattle.pm_model.specs.Arrays.{capacity, place_of}
-use Rattle.pm_model.specs.Tables.{all_columns}
-use Rattle.pm_model.specs.Trees.{leaf_list, leaf_slots, pair_at, leaf_pairs, used_pairs, dictionary_length, dictionary_word}
-use Rattle.pm_model.specs.Owners.{Owner, word_of, named_block, owner_words, owns_block, dictionary_slots, key_words, EachBlockHasOneOwner}
-use Rattle.pm_model.specs.Checks.{check}
-use Rattle.pm_model.specs.EntryRules.{is_among}
-use Rattle.pm_model.specs.SoundRules.{owner_rule, distinct_checks, single_owner_rule, owned_rule, UsedSlot, column_slots, is_code_of, code_checks, code_rule, IsSound}
-use Rattle.pm_model.proofs.Heap.{Holds}
-use Rattle.pm_model.proofs.Members.{below-Contains, Contains-here, Contains-there, Contains-cons, Contains-nil, Contains-flat_map, flat_map-Contains, Contains-map, map-Contains}
-use Rattle.pm_model.proofs.Heap.{small_class}
+use Rattle.image_layout.specs.Pointer.{pointer_word}
+use Rattle.image_layout.specs.Places.{below, page_count, place_in, is_pointer}
+use Rattle.image_layout.specs.Blocks.{Block, slot_words, slots_of, descriptor_of, says_small, is_inside, is_small_page, is_big_head, class_of, small_block, used_slots, blocks_if, blocks_of_page, live_blocks, is_live}
+use Rattle.image_layout.specs.Arrays.{capacity, place_of}
+use Rattle.image_layout.specs.Tables.{all_columns}
+use Rattle.image_layout.specs.Trees.{leaf_list, leaf_slots, pair_at, leaf_pairs, used_pairs, dictionary_length, dictionary_word}
+use Rattle.image_layout.specs.Owners.{Owner, word_of, named_block, owner_words, owns_block, dictionary_slots, key_words, EachBlockHasOneOwner}
+use Rattle.image_layout.specs.Checks.{check}
+use Rattle.image_layout.specs.EntryRules.{is_among}
+use Rattle.image_layout.specs.SoundRules.{owner_rule, distinct_checks, single_owner_rule, owned_rule, UsedSlot, column_slots, is_code_of, code_checks, code_rule, IsSound}
+use Rattle.image_layout.proofs.Heap.{Holds}
+use Rattle.image_layout.proofs.Members.{below-Contains, Contains-here, Contains-there, Contains-cons, Contains-nil, Contains-flat_map, flat_map-Contains, Contains-map, map-Contains}
+use Rattle.image_layout.proofs.Heap.{small_class}
 use Rattle.shown_state.proofs.Walks.{pointers_name_their_place}
-use Rattle.pm_model.specs.Records.{dictionary_header, key_at, code_at}
+use Rattle.image_layout.specs.Records.{dictionary_header, key_at, code_at}
 
 -- no number stands twice
 abbrev pub Differ : List ℕ → Type 0

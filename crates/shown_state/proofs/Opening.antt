@@ -7,20 +7,20 @@ use Rattle.std.proofs.lemmas.Bool.{cases_Bool, eqb-true, eq-eqb, and_parts, ltb-
 use Rattle.std.proofs.lemmas.List.FromFn.{length-range_with_len, get_or-range_with_len}
 use Rattle.std.proofs.lemmas.List.Elements.{All-nil, All-cons, All-head, All-tail, All-append, All-map, All-contains, Contains-get_or, Contains-append_left, Contains-append_right}
 use Rattle.pm_model.specs.declared.action.Action.{Action}
-use Rattle.pm_model.specs.Fixed.{lane_at, last_at, state_at, commit_word_at}
-use Rattle.pm_model.specs.Places.{below}
-use Rattle.pm_model.specs.Arrays.{capacity, place_of}
-use Rattle.pm_model.specs.Tables.{all_columns, is_text}
-use Rattle.pm_model.specs.Objects.{is_open, entry_places, open_commit, last_commit}
-use Rattle.pm_model.specs.Trees.{dictionary_length}
-use Rattle.pm_model.specs.Owners.{next_table_slots, next_text_slots}
-use Rattle.pm_model.specs.EntryRules.{text_columns}
-use Rattle.pm_model.specs.SoundRules.{zero_check, idle_rule, split_log_rule, closed_rule, spare_slots, spare_slot_rule, IsSound}
+use Rattle.image_layout.specs.Fixed.{lane_at, last_at, state_at, commit_word_at}
+use Rattle.image_layout.specs.Places.{below}
+use Rattle.image_layout.specs.Arrays.{capacity, place_of}
+use Rattle.image_layout.specs.Tables.{all_columns, is_text}
+use Rattle.image_layout.specs.Objects.{is_open, entry_places, open_commit, last_commit}
+use Rattle.image_layout.specs.Trees.{dictionary_length}
+use Rattle.image_layout.specs.Owners.{next_table_slots, next_text_slots}
+use Rattle.image_layout.specs.EntryRules.{text_columns}
+use Rattle.image_layout.specs.SoundRules.{zero_check, idle_rule, split_log_rule, closed_rule, spare_slots, spare_slot_rule, IsSound}
 use Rattle.shown_state.proofs.Formatted.{first_segment, formatted, formatted_is_fresh}
 use Rattle.mv_model.specs.State.{empty}
-use Rattle.pm_model.specs.Fresh.{fresh_words}
-use Rattle.pm_model.proofs.Heap.{Holds}
-use Rattle.pm_model.proofs.Members.{below-Contains, Contains-below, Contains-here, Contains-there, flat_map-Contains, map-Contains, filter-Contains}
+use Rattle.image_layout.specs.Fresh.{fresh_words}
+use Rattle.image_layout.proofs.Heap.{Holds}
+use Rattle.image_layout.proofs.Members.{below-Contains, Contains-below, Contains-here, Contains-there, flat_map-Contains, map-Contains, filter-Contains}
 use Rattle.shown_state.specs.LogicalState.{logical_state}
 use Rattle.pm_model.specs.Plans.{Part, store}
 use Rattle.pm_model.specs.Needed.{is_there, is_stored_later, needed_stores, needed_parts, Mending}
@@ -28,8 +28,8 @@ use Rattle.shown_state.proofs.Sounds.{sound_logs}
 use Rattle.shown_state.specs.Mending.{lane_mending, at_column, split_parts, split_mending, free_table, slot_mending, free_text, text_mending, last_mending, undo_mending, close_mending, clear_mending, mendings, mend, reached_by_opening}
 use Rattle.shown_state.specs.OpeningLaws.{FormattedIsRecoverable, FormattedShowsNothing, SoundIsRecoverable, SoundIsRecovered}
 use Rattle.shown_state.proofs.FormattedImage.{formatted_is_sound}
-use Rattle.pm_model.specs.Records.{split_leaf_at, new_leaf_at, dictionary_header}
-use Rattle.pm_model.proofs.SoundApart.{sound_apart}
+use Rattle.image_layout.specs.Records.{split_leaf_at, new_leaf_at, dictionary_header}
+use Rattle.image_layout.proofs.SoundApart.{sound_apart}
 
 formatted_nothing : (segments : ℕ) → logical_state (formatted segments) ≡ empty
 unfolding logical_state first_segment

@@ -4,12 +4,12 @@ use Rattle.std.specs.List.{flat_map}
 use Rattle.std.proofs.lemmas.Bool.{cond_both}
 use Rattle.pm_model.specs.Plans.{Part, finished}
 use Rattle.pm_model.specs.Needed.{StoresOfParts, after_mending}
-use Rattle.pm_model.specs.Owners.{next_table_slots}
+use Rattle.image_layout.specs.Owners.{next_table_slots}
 use Rattle.pm_model.proofs.NeededStores.{needed-finished, parts-append}
 use Rattle.heap_palloc.specs.Choice.{Freed, of_slot, of_pages, freed_named, freed_parts}
 use Rattle.heap_palloc.specs.Law.{taken, pages_allocation}
 use Rattle.heap_small.specs.Bitmap.{without_bit}
-use Rattle.pm_model.specs.Blocks.{bitmap_of}
+use Rattle.image_layout.specs.Blocks.{bitmap_of}
 use Rattle.heap_palloc.specs.Parts.{Allocation, freeing_parts, free_page_parts}
 use Rattle.shown_state.specs.Mending.{free_block, free_table, slot_mending}
 use Rattle.shown_state.proofs.LaneMending.{Any}

@@ -5,23 +5,23 @@ use Rattle.std.specs.List.{flat_map, list_all, range_with_len}
 use Rattle.std.proofs.lemmas.Bool.{both_ways, cases_Bool, eqb-true, eq-eqb, ltb-true, lt-ltb, leb-true, le-leb, not-true, and_parts, and_from, or_cases}
 use Rattle.std.proofs.lemmas.List.Elements.{All-contains, All-head, All-tail, Contains-append_cases, Contains-append_left, Contains-append_right, Contains-get_or}
 use Rattle.std.proofs.lemmas.List.FromFn.{length-range_with_len, get_or-range_with_len}
-use Rattle.pm_model.specs.Fixed.{commit_word_at, lane_op_at, last_at, state_at}
-use Rattle.pm_model.specs.Pointer.{pointer_word}
-use Rattle.pm_model.specs.Places.{below}
-use Rattle.pm_model.specs.Records.{codes_header, created_header, dictionary_header, ended_header, high_at, new_leaf_at, split_leaf_at}
-use Rattle.pm_model.specs.Arrays.{capacity, place_of, array_word}
-use Rattle.pm_model.specs.Blocks.{Block, live_blocks}
-use Rattle.pm_model.specs.Checks.{Check, check}
-use Rattle.pm_model.specs.Tables.{table_count, table_block, table_blocks, columns_of, all_columns, is_text}
-use Rattle.pm_model.specs.Objects.{is_open, open_commit, entry_places, last_commit}
-use Rattle.pm_model.specs.Trees.{dictionary_length, is_about_to_link}
-use Rattle.pm_model.specs.EntryRules.{is_among, text_columns}
-use Rattle.pm_model.specs.SoundRules.{zero_check, idle_rule, split_log_rule, closed_rule, owned_rule, spare_slots, spare_slot_rule, no_commit, is_commit, is_created, is_ended, row_check, row_checks, row_headers, stamp_checks, stamp_rule, row_code_check, committed_rows, row_code_rule, IsSound}
-use Rattle.pm_model.specs.Owners.{Owner, word_of, owner_words, new_leaf_owners, next_table_slots, next_text_slots, unfinished_slots, firm_owners, owner_places, busy_lanes, lane_block}
-use Rattle.pm_model.proofs.Faults.{Holds, mapped_hold}
-use Rattle.pm_model.proofs.Members.{Contains-below, below-Contains, Contains-here, Contains-there, Contains-cons, Contains-nil, Contains-flat_map, flat_map-Contains, Contains-map, map-Contains, Contains-filter, filter-Contains}
-use Rattle.pm_model.proofs.OwnersApart.{all_from}
-use Rattle.pm_model.proofs.SoundApart.{sound_apart}
+use Rattle.image_layout.specs.Fixed.{commit_word_at, lane_op_at, last_at, state_at}
+use Rattle.image_layout.specs.Pointer.{pointer_word}
+use Rattle.image_layout.specs.Places.{below}
+use Rattle.image_layout.specs.Records.{codes_header, created_header, dictionary_header, ended_header, high_at, new_leaf_at, split_leaf_at}
+use Rattle.image_layout.specs.Arrays.{capacity, place_of, array_word}
+use Rattle.image_layout.specs.Blocks.{Block, live_blocks}
+use Rattle.image_layout.specs.Checks.{Check, check}
+use Rattle.image_layout.specs.Tables.{table_count, table_block, table_blocks, columns_of, all_columns, is_text}
+use Rattle.image_layout.specs.Objects.{is_open, open_commit, entry_places, last_commit}
+use Rattle.image_layout.specs.Trees.{dictionary_length, is_about_to_link}
+use Rattle.image_layout.specs.EntryRules.{is_among, text_columns}
+use Rattle.image_layout.specs.SoundRules.{zero_check, idle_rule, split_log_rule, closed_rule, owned_rule, spare_slots, spare_slot_rule, no_commit, is_commit, is_created, is_ended, row_check, row_checks, row_headers, stamp_checks, stamp_rule, row_code_check, committed_rows, row_code_rule, IsSound}
+use Rattle.image_layout.specs.Owners.{Owner, word_of, owner_words, new_leaf_owners, next_table_slots, next_text_slots, unfinished_slots, firm_owners, owner_places, busy_lanes, lane_block}
+use Rattle.image_layout.proofs.Faults.{Holds, mapped_hold}
+use Rattle.image_layout.proofs.Members.{Contains-below, below-Contains, Contains-here, Contains-there, Contains-cons, Contains-nil, Contains-flat_map, flat_map-Contains, Contains-map, map-Contains, Contains-filter, filter-Contains}
+use Rattle.image_layout.proofs.OwnersApart.{all_from}
+use Rattle.image_layout.proofs.SoundApart.{sound_apart}
 use Rattle.shown_state.specs.LogicalState.{created_rows, row_bound, open_bound}
 use Rattle.shown_state.specs.Logs.{LaneFits, SlotFits, SplitFits, LogsFit}
 use Rattle.shown_state.specs.Fits.{spoken_for, later_slots, later_slot_rule, is_undecided, undecided_bound, used_up, CreatorFits, EnderFits, HasValue, RowsFit}

@@ -1,9 +1,9 @@
 -- Walks along next words.
 use Rattle.std.proofs.Common.{◌≡◌, zero, suc, [], ◌∷◌, get_or, refl, ◌∙◌, ap, arith}
-use Rattle.pm_model.specs.Places.{place_in}
-use Rattle.pm_model.specs.Trees.{leaves_from}
+use Rattle.image_layout.specs.Places.{place_in}
+use Rattle.image_layout.specs.Trees.{leaves_from}
 use Rattle.shown_state.specs.ImageLaws.{PointersNameTheirPlace, WalksAreWhole}
-use Rattle.pm_model.specs.Records.{next_leaf_at}
+use Rattle.image_layout.specs.Records.{next_leaf_at}
 
 pub pointers_name_their_place : PointersNameTheirPlace
 pointers_name_their_place place = omega arith

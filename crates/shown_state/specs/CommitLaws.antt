@@ -5,12 +5,12 @@ use Rattle.mv_model.specs.declared.shape.Kind.TheVariants as kind
 use Rattle.mv_model.specs.declared.value.Value.{Value}
 use Rattle.mv_model.specs.declared.value.Value.TheVariants as value
 use Rattle.mv_model.specs.State.{RowKey, CreatedRow, WriteSet, no_writes, all_idle}
-use Rattle.pm_model.specs.Pointer.{pointer_word}
-use Rattle.pm_model.specs.Fresh.{magic_number}
-use Rattle.pm_model.specs.Records.{columns_at, column_at, created_header, ended_header}
-use Rattle.pm_model.specs.Arrays.{capacity, array_word}
-use Rattle.pm_model.specs.Tables.{table_count, table_block}
-use Rattle.pm_model.specs.Objects.{last_commit}
+use Rattle.image_layout.specs.Pointer.{pointer_word}
+use Rattle.image_layout.specs.Fresh.{magic_number}
+use Rattle.image_layout.specs.Records.{columns_at, column_at, created_header, ended_header}
+use Rattle.image_layout.specs.Arrays.{capacity, array_word}
+use Rattle.image_layout.specs.Tables.{table_count, table_block}
+use Rattle.image_layout.specs.Objects.{last_commit}
 use Rattle.shown_state.specs.LogicalState.{row_value, logical_state}
 
 -- there is such a commit: they are counted from 1

@@ -1,18 +1,18 @@
 -- What every image keeps that a power cut can leave, said word by word, with no opening in it.
 use Rattle.std.specs.Prelude.{◌≡◌, ◌⊎◌, ℕ, ◌+◌, ◌-◌, ◌<◌, ◌≤◌, max, Bool, ◌&&◌, ◌==◌, IsTrue, List, ◌++◌, map, filter, fold, slice_index, All, Contains}
 use Rattle.std.specs.List.{flat_map, range_with_len}
-use Rattle.pm_model.specs.Pointer.{pointer_word}
-use Rattle.pm_model.specs.Places.{below}
-use Rattle.pm_model.specs.Records.{codes_header, created_header, dictionary_header, ended_header, high_at}
-use Rattle.pm_model.specs.Blocks.{live_blocks}
-use Rattle.pm_model.specs.Arrays.{capacity, place_of, array_word}
-use Rattle.pm_model.specs.Tables.{table_count, table_block, columns_of}
-use Rattle.pm_model.specs.Objects.{is_open, commit_word, entries, entry_word, last_commit}
-use Rattle.pm_model.specs.Trees.{dictionary_length}
-use Rattle.pm_model.specs.Owners.{owner_places, busy_lanes, lane_block, OwnersAreApart}
-use Rattle.pm_model.specs.Checks.{Rule, Keeps}
-use Rattle.pm_model.specs.EntryRules.{text_columns, KeepsEntryRules}
-use Rattle.pm_model.specs.SoundRules.{zero_check, no_commit, row_headers, owner_rule, order_rule, fingerprint_rule, code_rule, text_rule, given_back_rule, distinct_name_rule}
+use Rattle.image_layout.specs.Pointer.{pointer_word}
+use Rattle.image_layout.specs.Places.{below}
+use Rattle.image_layout.specs.Records.{codes_header, created_header, dictionary_header, ended_header, high_at}
+use Rattle.image_layout.specs.Blocks.{live_blocks}
+use Rattle.image_layout.specs.Arrays.{capacity, place_of, array_word}
+use Rattle.image_layout.specs.Tables.{table_count, table_block, columns_of}
+use Rattle.image_layout.specs.Objects.{is_open, commit_word, entries, entry_word, last_commit}
+use Rattle.image_layout.specs.Trees.{dictionary_length}
+use Rattle.image_layout.specs.Owners.{owner_places, busy_lanes, lane_block, OwnersAreApart}
+use Rattle.image_layout.specs.Checks.{Rule, Keeps}
+use Rattle.image_layout.specs.EntryRules.{text_columns, KeepsEntryRules}
+use Rattle.image_layout.specs.SoundRules.{zero_check, no_commit, row_headers, owner_rule, order_rule, fingerprint_rule, code_rule, text_rule, given_back_rule, distinct_name_rule}
 use Rattle.shown_state.specs.LogicalState.{created_rows, row_bound, next_row_of}
 use Rattle.shown_state.specs.Logs.{LogsFit}
 

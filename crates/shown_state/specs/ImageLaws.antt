@@ -1,15 +1,15 @@
 -- What holds of every image, of a sound one, or of a formatted one.
 use Rattle.std.specs.Prelude.{◌≡◌, ℕ, ◌<◌, ◌≤◌, List, length, slice_index, Contains}
-use Rattle.pm_model.specs.Pointer.{pointer_word}
-use Rattle.pm_model.specs.Places.{place_in}
-use Rattle.pm_model.specs.Trees.{leaves_from, AreLeavesFrom, stored_leaves}
-use Rattle.pm_model.specs.Tables.{all_columns}
-use Rattle.pm_model.specs.Checks.{Keeps}
-use Rattle.pm_model.specs.Owners.{EachBlockHasOneOwner, OwnersAreApart}
-use Rattle.pm_model.specs.Records.{first_leaf_at}
-use Rattle.pm_model.specs.EntryRules.{tree_rule}
-use Rattle.pm_model.specs.SoundRules.{IsSound}
-use Rattle.pm_model.specs.Fresh.{fresh_words}
+use Rattle.image_layout.specs.Pointer.{pointer_word}
+use Rattle.image_layout.specs.Places.{place_in}
+use Rattle.image_layout.specs.Trees.{leaves_from, AreLeavesFrom, stored_leaves}
+use Rattle.image_layout.specs.Tables.{all_columns}
+use Rattle.image_layout.specs.Checks.{Keeps}
+use Rattle.image_layout.specs.Owners.{EachBlockHasOneOwner, OwnersAreApart}
+use Rattle.image_layout.specs.Records.{first_leaf_at}
+use Rattle.image_layout.specs.EntryRules.{tree_rule}
+use Rattle.image_layout.specs.SoundRules.{IsSound}
+use Rattle.image_layout.specs.Fresh.{fresh_words}
 
 -- a formatted image is sound
 abbrev pub FormattedIsSound : Type 0

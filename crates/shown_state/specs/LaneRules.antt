@@ -1,9 +1,9 @@
 -- What the mending of a lane relies on.
 use Rattle.std.specs.Prelude.{◌≡◌, ℕ, ◌<◌, ◌≤◌, List, length, slice_index}
-use Rattle.pm_model.specs.Fixed.{lane_op_at, lane_dest_at}
-use Rattle.pm_model.specs.Places.{place_in}
-use Rattle.pm_model.specs.Checks.{Keeps}
-use Rattle.pm_model.specs.HeapRules.{lane_rule}
+use Rattle.image_layout.specs.Fixed.{lane_op_at, lane_dest_at}
+use Rattle.image_layout.specs.Places.{place_in}
+use Rattle.image_layout.specs.Checks.{Keeps}
+use Rattle.image_layout.specs.HeapRules.{lane_rule}
 use Rattle.heap_palloc.specs.Calls.{KeepsHeapRules}
 use Rattle.heap_palloc.specs.Law.{IsOwnerPlace}
 

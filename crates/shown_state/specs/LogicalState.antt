@@ -7,12 +7,12 @@ use Rattle.mv_model.specs.declared.shape.Column.{Column}
 use Rattle.mv_model.specs.declared.value.Value.{Value}
 use Rattle.mv_model.specs.declared.value.Value.TheVariants as value
 use Rattle.mv_model.specs.State.{Table, CreatedRow, WriteSet, State, all_idle}
-use Rattle.pm_model.specs.Places.{below, place_in, packed_byte}
-use Rattle.pm_model.specs.Records.{table_name_at, high_at, created_header, ended_header, column_name_at, codes_header}
-use Rattle.pm_model.specs.Arrays.{capacity, array_word}
-use Rattle.pm_model.specs.Tables.{table_count, table_block, columns_of, is_text}
-use Rattle.pm_model.specs.Objects.{is_open, entries, entry_kind, entry_table, entry_row, last_commit}
-use Rattle.pm_model.specs.Trees.{text_at, dictionary_word, dictionary_words}
+use Rattle.image_layout.specs.Places.{below, place_in, packed_byte}
+use Rattle.image_layout.specs.Records.{table_name_at, high_at, created_header, ended_header, column_name_at, codes_header}
+use Rattle.image_layout.specs.Arrays.{capacity, array_word}
+use Rattle.image_layout.specs.Tables.{table_count, table_block, columns_of, is_text}
+use Rattle.image_layout.specs.Objects.{is_open, entries, entry_kind, entry_table, entry_row, last_commit}
+use Rattle.image_layout.specs.Trees.{text_at, dictionary_word, dictionary_words}
 
 -- the bytes of a name up to its padding
 unfoldable pub name_at : List ℕ → ℕ → List ℕ

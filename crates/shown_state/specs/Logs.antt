@@ -1,12 +1,12 @@
 -- What the logs of lanes and of splits say of their blocks, whatever a power cut left half done.
 use Rattle.std.specs.Prelude.{◌≡◌, ◌≢◌, ◌⊎◌, ℕ, ◌+◌, ◌%◌, ◌^◌, ◌<◌, true, false, List, slice_index, All, AllPairs, Contains}
-use Rattle.pm_model.specs.Fixed.{lane_op_at}
-use Rattle.pm_model.specs.Places.{page_of, place_in}
-use Rattle.pm_model.specs.Records.{first_leaf_at, new_leaf_at, next_leaf_at, split_leaf_at}
-use Rattle.pm_model.specs.Blocks.{descriptor_of, is_inside, is_small_page}
-use Rattle.pm_model.specs.Tables.{all_columns}
-use Rattle.pm_model.specs.Trees.{is_full_leaf, is_about_to_link}
-use Rattle.pm_model.specs.Owners.{busy_lanes, lane_owner, lane_block, unfinished_slots}
+use Rattle.image_layout.specs.Fixed.{lane_op_at}
+use Rattle.image_layout.specs.Places.{page_of, place_in}
+use Rattle.image_layout.specs.Records.{first_leaf_at, new_leaf_at, next_leaf_at, split_leaf_at}
+use Rattle.image_layout.specs.Blocks.{descriptor_of, is_inside, is_small_page}
+use Rattle.image_layout.specs.Tables.{all_columns}
+use Rattle.image_layout.specs.Trees.{is_full_leaf, is_about_to_link}
+use Rattle.image_layout.specs.Owners.{busy_lanes, lane_owner, lane_block, unfinished_slots}
 
 -- ── lanes ──
 

@@ -3,19 +3,19 @@ use Rattle.std.specs.Prelude.{ℕ, ◌-◌, ◌+◌, ◌^◌, max, Bool, true, f
 use Rattle.std.specs.List.{flat_map}
 use Rattle.std.specs.Option.{option_map_or}
 use Rattle.pm_model.specs.declared.action.Action.{Action}
-use Rattle.pm_model.specs.Fixed.{commit_word_at, descriptor_at, lane_op_at, lane_dest_at, lane_block_at, last_at, state_at}
-use Rattle.pm_model.specs.Places.{below, page_of, place_in}
+use Rattle.image_layout.specs.Fixed.{commit_word_at, descriptor_at, lane_op_at, lane_dest_at, lane_block_at, last_at, state_at}
+use Rattle.image_layout.specs.Places.{below, page_of, place_in}
 use Rattle.pm_model.specs.Plans.{Part, store, one_store, stores}
 use Rattle.pm_model.specs.Needed.{needed_parts, Mending, after_mending}
-use Rattle.pm_model.specs.Records.{code_at, created_header, ended_header, first_leaf_at, high_at, key_at, new_leaf_at, next_leaf_at, split_leaf_at}
-use Rattle.pm_model.specs.Blocks.{is_block_pointer}
-use Rattle.pm_model.specs.Arrays.{place_of}
-use Rattle.pm_model.specs.Tables.{table_count, table_block, all_columns, is_text}
-use Rattle.pm_model.specs.Objects.{is_open, commit_word, entry_places, entries, entry_kind, entry_table, entry_row, last_commit}
-use Rattle.pm_model.specs.Trees.{is_full_leaf, leaf_slots, key_below, key_fingerprint, sorted_by}
-use Rattle.pm_model.specs.Owners.{next_table_slots, next_text_slots}
-use Rattle.pm_model.specs.EntryRules.{entry_fault}
-use Rattle.pm_model.specs.SoundRules.{no_commit}
+use Rattle.image_layout.specs.Records.{code_at, created_header, ended_header, first_leaf_at, high_at, key_at, new_leaf_at, next_leaf_at, split_leaf_at}
+use Rattle.image_layout.specs.Blocks.{is_block_pointer}
+use Rattle.image_layout.specs.Arrays.{place_of}
+use Rattle.image_layout.specs.Tables.{table_count, table_block, all_columns, is_text}
+use Rattle.image_layout.specs.Objects.{is_open, commit_word, entry_places, entries, entry_kind, entry_table, entry_row, last_commit}
+use Rattle.image_layout.specs.Trees.{is_full_leaf, leaf_slots, key_below, key_fingerprint, sorted_by}
+use Rattle.image_layout.specs.Owners.{next_table_slots, next_text_slots}
+use Rattle.image_layout.specs.EntryRules.{entry_fault}
+use Rattle.image_layout.specs.SoundRules.{no_commit}
 use Rattle.heap_palloc.specs.Lane.{mark_at, unmarked}
 use Rattle.heap_palloc.specs.Choice.{freed_named, freed_parts}
 use Rattle.shown_state.specs.Packed.{packed_words}

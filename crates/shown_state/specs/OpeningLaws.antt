@@ -1,8 +1,8 @@
 -- What opening leaves as it is.
 use Rattle.std.specs.Prelude.{◌≡◌, ℕ, ◌<◌, List}
 use Rattle.mv_model.specs.State.{empty}
-use Rattle.pm_model.specs.SoundRules.{IsSound}
-use Rattle.pm_model.specs.Fresh.{fresh_words}
+use Rattle.image_layout.specs.SoundRules.{IsSound}
+use Rattle.image_layout.specs.Fresh.{fresh_words}
 use Rattle.shown_state.specs.LogicalState.{logical_state}
 use Rattle.shown_state.specs.Mending.{recovered}
 use Rattle.shown_state.specs.Recoverable.{IsRecoverable}

@@ -1,7 +1,7 @@
 -- Bytes that are packed into words, eight in a word, the first one lowest.
 use Rattle.std.specs.Prelude.{ℕ, ◌*◌, List, drop, map}
 use Rattle.std.specs.Int.{w64, from_le_bytes}
-use Rattle.pm_model.specs.Places.{below}
+use Rattle.image_layout.specs.Places.{below}
 
 -- a word of these bytes; behind the last one they are 0
 abbrev pub packed_word : List ℕ → ℕ → ℕ

@@ -1,13 +1,13 @@
 -- What each step of opening keeps of an image that fits together, and what follows for opening.
 use Rattle.std.specs.Prelude.{◌≡◌, ℕ, ◌+◌, ◌<◌, ◌≤◌, false, List, length, take, slice_index, All}
 use Rattle.pm_model.specs.Device.{IsCrashImage}
-use Rattle.pm_model.specs.Fixed.{lane_op_at, last_at, state_at}
+use Rattle.image_layout.specs.Fixed.{lane_op_at, last_at, state_at}
 use Rattle.pm_model.specs.Plans.{IsPlan, EachCut, finished, run, at_rest}
-use Rattle.pm_model.specs.Records.{new_leaf_at, split_leaf_at}
-use Rattle.pm_model.specs.Tables.{all_columns}
-use Rattle.pm_model.specs.Objects.{commit_word, entry_places, last_commit}
-use Rattle.pm_model.specs.Owners.{next_table_slots, next_text_slots}
-use Rattle.pm_model.specs.SoundRules.{IsSound}
+use Rattle.image_layout.specs.Records.{new_leaf_at, split_leaf_at}
+use Rattle.image_layout.specs.Tables.{all_columns}
+use Rattle.image_layout.specs.Objects.{commit_word, entry_places, last_commit}
+use Rattle.image_layout.specs.Owners.{next_table_slots, next_text_slots}
+use Rattle.image_layout.specs.SoundRules.{IsSound}
 use Rattle.shown_state.specs.Mending.{lane_mending, split_mending, slot_mending, text_mending, last_mending, undo_mending, close_mending, clear_mending, reached_by_opening, recovered}
 use Rattle.shown_state.specs.Recoverable.{IsRecoverable}
 use Rattle.shown_state.specs.Fits.{is_undecided, Fits}

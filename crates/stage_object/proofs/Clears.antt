@@ -7,8 +7,8 @@ use Rattle.std.proofs.lemmas.List.FromFn.{map-range_with_len_more, length-range_
 use mir.Val.{bool_byte}
 use Rattle.pm_model.specs.declared.action.Action.{Action}
 use Rattle.pm_model.specs.declared.action.Action.TheVariants.{Store}
-use Rattle.pm_model.specs.declared.place.Place.{Place}
-use Rattle.pm_model.specs.Fixed.{state_at, commit_word_at, entry_at}
+use Rattle.image_layout.specs.declared.place.Place.{Place}
+use Rattle.image_layout.specs.Fixed.{state_at, commit_word_at, entry_at}
 use Rattle.pm_model.specs.Plans.{store, one_store, unless_empty, add_line, lines_of, part_end, part_actions, plan_of}
 use Rattle.pm_model.proofs.Lines.{add_line-run, last_part, length-part_end, length-part_actions}
 use Rattle.txn_object.proofs.Clears.{bit_is}

@@ -1,7 +1,7 @@
 -- The entries of an object, one word after the other.
 use Rattle.std.proofs.Common.{◌≡◌, ◌⊎◌, ⊎_elim, ℕ, zero, suc, ◌+◌, ◌-◌, ◌<◌, ◌≤◌, List, [], ◌∷◌, ◌++◌, length, Some, slice_get, get_or, eqb, refl, sym, ◌∙◌, ap, append_assoc, arith}
 use Rattle.std.proofs.lemmas.Bool.{cond-true, cond-false, eq-eqb, ne_eqb, cases_eq}
-use Rattle.pm_model.specs.Fixed.{entry_at}
+use Rattle.image_layout.specs.Fixed.{entry_at}
 use Rattle.txn_object.specs.declared.entry.Entry.{Entry}
 use Rattle.txn_object.specs.Entries.{entry_of}
 use Rattle.stage_object.specs.Object.{entries_from, entries_in, free_among, free_entries_in}

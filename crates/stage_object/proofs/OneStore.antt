@@ -4,7 +4,7 @@ use Rattle.std.proofs.lemmas.List.{get_or-set_same, get_or-set_other}
 use Rattle.std.proofs.lemmas.Bool.{cases_eq}
 use Rattle.pm_model.specs.declared.action.Action.{Action}
 use Rattle.pm_model.specs.Device.{Device}
-use Rattle.pm_model.specs.Fixed.{state_at, commit_word_at, entry_at}
+use Rattle.image_layout.specs.Fixed.{state_at, commit_word_at, entry_at}
 use Rattle.pm_model.specs.Plans.{Play}
 use Rattle.txn_object.specs.declared.entry.Entry.{Entry}
 use Rattle.txn_object.specs.Entries.{entry_word, entry_of}

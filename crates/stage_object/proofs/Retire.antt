@@ -6,7 +6,7 @@ use Rattle.std.proofs.lemmas.List.{get_or-set_same, get_or-set_other, length-set
 use Rattle.std.proofs.lemmas.Bool.{eq-eqb, eqb-true, cases_eq, cases_Bool, both_ways, or_from, or_left, or_right, or_cases}
 use Rattle.pm_model.specs.declared.action.Action.{Action}
 use Rattle.pm_model.specs.declared.action.Action.TheVariants.{Flush, Fence}
-use Rattle.pm_model.specs.Fixed.{state_at, commit_word_at, entry_at}
+use Rattle.image_layout.specs.Fixed.{state_at, commit_word_at, entry_at}
 use Rattle.pm_model.specs.Device.{writes, IsBetween}
 use Rattle.pm_model.specs.Plans.{Part, store, one_store, unless_empty, lines_of, part_end, part_actions, plan_of, words_after, footprint, finished, IsPart, IsPlan, EachCut}
 use Rattle.pm_model.proofs.Alone.{length-words_after, words_after-append}

@@ -1,7 +1,7 @@
 -- A transaction object: what stands in its words, and the parts that change it.
 use Rattle.std.specs.Prelude.{ℕ, zero, suc, ◌+◌, ◌/◌, Bool, ◌==◌, if◌then◌else◌, List, [], ◌∷◌, ◌++◌, map, slice_index}
 use Rattle.std.specs.List.{range_with_len}
-use Rattle.pm_model.specs.Fixed.{state_at, commit_word_at, entry_at}
+use Rattle.image_layout.specs.Fixed.{state_at, commit_word_at, entry_at}
 use Rattle.pm_model.specs.Plans.{Part, store, one_store, unless_empty}
 use Rattle.txn_object.specs.declared.entry.Entry.{Entry}
 use Rattle.txn_object.specs.Entries.{entry_word, entry_of}

@@ -1,6 +1,6 @@
 -- What the words of a transaction object show, and what the plans of a transaction may rest on.
 use Rattle.std.specs.Prelude.{◌≡◌, ◌≢◌, ◌⊎◌, ℕ, ◌+◌, ◌^◌, ◌<◌, ◌≤◌, Bool, IsTrue, List, length, slice_index}
-use Rattle.pm_model.specs.Fixed.{state_at, commit_word_at, entry_at}
+use Rattle.image_layout.specs.Fixed.{state_at, commit_word_at, entry_at}
 use Rattle.txn_object.specs.declared.entry.Entry.{Entry}
 use Rattle.stage_object.specs.Object.{entries_in}
 

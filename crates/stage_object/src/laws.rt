@@ -2,7 +2,7 @@
 ghost use Rattle.std.specs.Prelude.{◌≡◌, ◌≢◌, ◌⊎◌, ◌↔◌, ℕ, ◌+◌, ◌^◌, ◌<◌, ◌≤◌, [], ◌∷◌, ◌++◌, Bool, IsTrue, List, Some, length, slice_get, slice_index};
 ghost use Rattle.pm_model.specs.declared.action.Action.{Action};
 ghost use Rattle.pm_model.specs.Device.{Device, IsBetween, IsClean};
-ghost use Rattle.pm_model.specs.Fixed.{state_at, commit_word_at, entry_at};
+ghost use Rattle.image_layout.specs.Fixed.{state_at, commit_word_at, entry_at};
 ghost use Rattle.pm_model.specs.Plans.{Play, IsPlan, EachCut, finished, footprint, one_store, plan_of, unless_empty, words_after};
 ghost use Rattle.txn_object.specs.declared.entry.Entry.{Entry};
 ghost use Rattle.txn_object.specs.Entries.{entry_word, entry_of};

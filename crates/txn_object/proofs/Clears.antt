@@ -5,10 +5,10 @@ use Rattle.std.proofs.lemmas.List.{length-append, length-map, length-take-le}
 use mir.Val.{bool_byte}
 use Rattle.pm_model.specs.declared.action.Action.{Action}
 use Rattle.pm_model.specs.declared.action.Action.TheVariants.{Store}
-use Rattle.pm_model.specs.declared.place.Place.{Place}
-use Rattle.pm_model.specs.Fixed.{state_at, commit_word_at}
+use Rattle.image_layout.specs.declared.place.Place.{Place}
+use Rattle.image_layout.specs.Fixed.{state_at, commit_word_at}
 use Rattle.pm_model.specs.Plans.{Part, store, stores, one_store, unless_empty, lines_of, part_end, part_actions, plan_of}
-use Rattle.pm_model.specs.Objects.{entry_places}
+use Rattle.image_layout.specs.Objects.{entry_places}
 use Rattle.pm_model.proofs.Lines.{last_part, length-part_actions}
 use Rattle.txn_object.specs.Object.{clear_part, retire_parts}
 

@@ -4,9 +4,9 @@ use Rattle.std.proofs.lemmas.List.{get_or-set_same, get_or-set_other, length-set
 use Rattle.std.proofs.lemmas.Bool.{cases_eq, cond-true, cond-false, eq-eqb, ne_eqb}
 use Rattle.pm_model.specs.declared.action.Action.{Action}
 use Rattle.pm_model.specs.Device.{Device, IsClean}
-use Rattle.pm_model.specs.Fixed.{state_at, commit_word_at, entry_at, ready_at, last_at}
+use Rattle.image_layout.specs.Fixed.{state_at, commit_word_at, entry_at, ready_at, last_at}
 use Rattle.pm_model.specs.Plans.{Play, one_store, plan_of, footprint, finished, EachCut}
-use Rattle.pm_model.specs.Objects.{segment_pointer_at, entry_places}
+use Rattle.image_layout.specs.Objects.{segment_pointer_at, entry_places}
 use Rattle.pm_model.proofs.Cuts.{one_store-cut}
 use Rattle.pm_model.proofs.PlanLaw.{plan_survives_cuts, plan_ended_image, plan_ends}
 use Rattle.std.proofs.lemmas.Bool.{or_left}

@@ -6,18 +6,18 @@ use Rattle.std.proofs.lemmas.List.{map-append}
 use Rattle.std.proofs.lemmas.List.Elements.{filter-append}
 use Rattle.std.proofs.lemmas.List.Folds.{list_any_at}
 use Rattle.std.proofs.lemmas.List.FromFn.{length-map-range_with_len, get_or-map-range_with_len, map-range_with_len_more}
-use Rattle.pm_model.specs.Fixed.{state_at, commit_word_at, ready_at, last_at, first_segment_at, lane_op_at}
-use Rattle.pm_model.specs.Pointer.{pointer_word}
-use Rattle.pm_model.specs.Places.{below, place_in, is_pointer_to, is_null_or_pointer_to}
+use Rattle.image_layout.specs.Fixed.{state_at, commit_word_at, ready_at, last_at, first_segment_at, lane_op_at}
+use Rattle.image_layout.specs.Pointer.{pointer_word}
+use Rattle.image_layout.specs.Places.{below, place_in, is_pointer_to, is_null_or_pointer_to}
 use Rattle.pm_model.specs.Device.{IsBetween}
 use Rattle.pm_model.specs.Plans.{words_after, EachCut, finished}
-use Rattle.pm_model.specs.Blocks.{live_blocks}
-use Rattle.pm_model.specs.Checks.{Keeps}
-use Rattle.pm_model.specs.Objects.{commit_word, ready_count, segment_pointer_at, segment_of, pointer_after, ready_segments, entry_places, entries}
-use Rattle.pm_model.specs.EntryRules.{is_among, is_segment_pointer, object_rule}
+use Rattle.image_layout.specs.Blocks.{live_blocks}
+use Rattle.image_layout.specs.Checks.{Keeps}
+use Rattle.image_layout.specs.Objects.{commit_word, ready_count, segment_pointer_at, segment_of, pointer_after, ready_segments, entry_places, entries}
+use Rattle.image_layout.specs.EntryRules.{is_among, is_segment_pointer, object_rule}
 use Rattle.pm_model.proofs.Alone.{length-words_after}
 use Rattle.pm_model.proofs.Cuts.{between-kept, between-end, cut-one_store}
-use Rattle.pm_model.proofs.Ranges.{map_same}
+use Rattle.image_layout.proofs.Ranges.{map_same}
 use Rattle.heap_palloc.specs.Lane.{mended_lane}
 use Rattle.heap_palloc.specs.Law.{ChangesShown}
 use Rattle.heap_palloc.specs.Choice.{Choice, in_page, on_new_page, in_run, choice_parts, choice_block, choice_page, choice_pages, IsThrough, MayMake}

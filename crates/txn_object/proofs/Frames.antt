@@ -2,13 +2,13 @@
 use Rattle.std.proofs.Common.{◌≡◌, ◌≢◌, ◌⊎◌, inl, inr, ⊎_elim, ℕ, zero, suc, ◌+◌, ◌-◌, ◌*◌, ◌/◌, ◌%◌, ◌^◌, ◌<◌, ◌≤◌, min, Bool, true, not, ◌&&◌, ◌||◌, eqb, leb, ltb, List, ◌++◌, length, map, get_or, refl, sym, ◌∙◌, ap, subst, arith}
 use Rattle.std.specs.List.{flat_map}
 use Rattle.std.proofs.lemmas.Bool.{cases_eq, cases_lt, leb-true, le-leb}
-use Rattle.pm_model.specs.Pointer.{pointer_word}
-use Rattle.pm_model.specs.Fixed.{state_at, commit_word_at, ready_at, last_at, entry_at, first_segment_at}
-use Rattle.pm_model.specs.Places.{below, place_in, is_pointer_to, is_null_or_pointer_to}
-use Rattle.pm_model.specs.Records.{segment_entry_at}
-use Rattle.pm_model.specs.Objects.{commit_word, ready_count, segment_pointer_at, segment_of, pointer_after, ready_segments, entry_places}
-use Rattle.pm_model.specs.EntryRules.{is_among, is_segment_pointer}
-use Rattle.pm_model.proofs.Ranges.{map_same}
+use Rattle.image_layout.specs.Pointer.{pointer_word}
+use Rattle.image_layout.specs.Fixed.{state_at, commit_word_at, ready_at, last_at, entry_at, first_segment_at}
+use Rattle.image_layout.specs.Places.{below, place_in, is_pointer_to, is_null_or_pointer_to}
+use Rattle.image_layout.specs.Records.{segment_entry_at}
+use Rattle.image_layout.specs.Objects.{commit_word, ready_count, segment_pointer_at, segment_of, pointer_after, ready_segments, entry_places}
+use Rattle.image_layout.specs.EntryRules.{is_among, is_segment_pointer}
+use Rattle.image_layout.proofs.Ranges.{map_same}
 use Rattle.txn_object.specs.Shown.{HasObject}
 use Rattle.txn_object.proofs.Places.{places_up_to, all_places, own_place, more_place, length-entry_places}
 use Rattle.txn_object.proofs.Rule.{at_most_32, commit_ok, pointer_rule, after_ok, within, rule_from}

@@ -2,12 +2,12 @@
 use Rattle.std.proofs.Common.{◌≡◌, inr, eqb, ℕ, ◌<◌, List, get_or, sym, ◌∙◌, ap, subst, arith}
 use Rattle.std.specs.Prelude.{Contains}
 use Rattle.std.proofs.lemmas.Bool.{or_right}
-use Rattle.pm_model.specs.Fixed.{ready_at}
-use Rattle.pm_model.specs.Pointer.{pointer_word}
-use Rattle.pm_model.specs.Places.{place_in, is_pointer_to}
+use Rattle.image_layout.specs.Fixed.{ready_at}
+use Rattle.image_layout.specs.Pointer.{pointer_word}
+use Rattle.image_layout.specs.Places.{place_in, is_pointer_to}
 use Rattle.pm_model.specs.Plans.{finished}
-use Rattle.pm_model.specs.Blocks.{live_blocks}
-use Rattle.pm_model.specs.Objects.{ready_count, segment_pointer_at, segment_of, pointer_after, entries}
+use Rattle.image_layout.specs.Blocks.{live_blocks}
+use Rattle.image_layout.specs.Objects.{ready_count, segment_pointer_at, segment_of, pointer_after, entries}
 use Rattle.heap_palloc.specs.Index.{HeapIndex, IsIndexOf}
 use Rattle.heap_palloc.specs.Choice.{Choice, choice_parts, choice_block}
 use Rattle.heap_palloc.proofs.RulesKept.{choice_rules}

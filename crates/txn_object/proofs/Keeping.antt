@@ -3,10 +3,10 @@
 use Rattle.std.proofs.Common.{◌≡◌, ◌≢◌, inl, ⊎_elim, ℕ, ◌+◌, ◌-◌, ◌^◌, ◌<◌, ◌≤◌, min, true, not, leb, List, length, get_or, sym, ◌∙◌, ap, subst, arith}
 use Rattle.std.specs.Prelude.{Contains}
 use Rattle.std.proofs.lemmas.Bool.{and_parts}
-use Rattle.pm_model.specs.Fixed.{state_at, commit_word_at, ready_at, last_at, lane_op_at, entry_at, descriptor_at}
-use Rattle.pm_model.specs.Places.{page_at, place_in}
-use Rattle.pm_model.specs.Blocks.{Block, says_small, descriptor_of, is_inside, is_small_page, live_blocks}
-use Rattle.pm_model.specs.Objects.{commit_word, ready_count, segment_pointer_at, segment_of, entry_places}
+use Rattle.image_layout.specs.Fixed.{state_at, commit_word_at, ready_at, last_at, lane_op_at, entry_at, descriptor_at}
+use Rattle.image_layout.specs.Places.{page_at, place_in}
+use Rattle.image_layout.specs.Blocks.{Block, says_small, descriptor_of, is_inside, is_small_page, live_blocks}
+use Rattle.image_layout.specs.Objects.{commit_word, ready_count, segment_pointer_at, segment_of, entry_places}
 use Rattle.heap_palloc.specs.Index.{HeapIndex}
 use Rattle.heap_palloc.proofs.Dests.{small_heap_page}
 use Rattle.heap_palloc.proofs.LiveBlocks.{SameHeap, live_blocks-same}

@@ -1,13 +1,13 @@
 -- Where owner words are apart, each transaction object has its segments, and may be extended.
 use Rattle.std.proofs.Common.{◌≡◌, ℕ, ◌<◌, List, get_or, subst, arith}
 use Rattle.std.specs.Prelude.{Contains}
-use Rattle.pm_model.specs.Fixed.{lane_op_at}
-use Rattle.pm_model.specs.Blocks.{Block, live_blocks}
-use Rattle.pm_model.specs.EntryRules.{KeepsEntryRules}
-use Rattle.pm_model.specs.Objects.{ready_count, segment_of}
-use Rattle.pm_model.specs.Owners.{OwnersAreApart}
-use Rattle.pm_model.proofs.OwnersApart.{LiveAt}
-use Rattle.pm_model.proofs.OwnedBlocks.{one_object, ready_named, segment_live, segments_apart}
+use Rattle.image_layout.specs.Fixed.{lane_op_at}
+use Rattle.image_layout.specs.Blocks.{Block, live_blocks}
+use Rattle.image_layout.specs.EntryRules.{KeepsEntryRules}
+use Rattle.image_layout.specs.Objects.{ready_count, segment_of}
+use Rattle.image_layout.specs.Owners.{OwnersAreApart}
+use Rattle.image_layout.proofs.OwnersApart.{LiveAt}
+use Rattle.image_layout.proofs.OwnedBlocks.{one_object, ready_named, segment_live, segments_apart}
 use Rattle.heap_palloc.specs.Index.{HeapIndex, IsIndexOf}
 use Rattle.txn_object.specs.Calls.{MayPlanExtension}
 use Rattle.txn_object.specs.Extension.{HasSegments, segment_block}

@@ -2,10 +2,10 @@
 use Rattle.std.proofs.Common.{◌≡◌, ◌≢◌, ◌⊎◌, inl, inr, ⊎_elim, ℕ, ◌+◌, ◌-◌, ◌^◌, ◌<◌, ◌≤◌, min, Bool, true, false, leb, List, [], ◌∷◌, ◌++◌, length, get_or, set, refl, sym, ◌∙◌, ap, subst, arith}
 use Rattle.std.proofs.lemmas.Bool.{le-leb, both_ways}
 use Rattle.std.proofs.lemmas.List.{get_or-set_same, get_or-set_other, length-set, length-map, length-append}
-use Rattle.pm_model.specs.Fixed.{state_at, commit_word_at, last_at}
+use Rattle.image_layout.specs.Fixed.{state_at, commit_word_at, last_at}
 use Rattle.pm_model.specs.Plans.{Part, finished, EachCut}
-use Rattle.pm_model.specs.Objects as objects
-use Rattle.pm_model.specs.Objects.{commit_word, entry_places}
+use Rattle.image_layout.specs.Objects as objects
+use Rattle.image_layout.specs.Objects.{commit_word, entry_places}
 use Rattle.pm_model.proofs.Cuts.{cut-one_store, each_cut-map, each_cut-end}
 use Rattle.heap_palloc.specs.Index.{HeapIndex}
 use Rattle.txn_object.specs.declared.entry.Entry.{Entry}

@@ -2,10 +2,10 @@
 use Rattle.std.proofs.Common.{◌≡◌, ◌≢◌, inl, inr, ℕ, zero, suc, ◌<◌, ◌≤◌, List, ◌++◌, length, refl, sym, ◌∙◌, ap, subst, append-nil, arith}
 use Rattle.std.specs.Prelude.{Contains}
 use Rattle.pm_model.specs.declared.action.Action.{Action}
-use Rattle.pm_model.specs.Pointer.{pointer_word}
-use Rattle.pm_model.specs.Places.{place_in}
-use Rattle.pm_model.specs.Blocks.{live_blocks}
-use Rattle.pm_model.specs.Objects.{ready_count, segment_pointer_at, segment_of, pointer_after}
+use Rattle.image_layout.specs.Pointer.{pointer_word}
+use Rattle.image_layout.specs.Places.{place_in}
+use Rattle.image_layout.specs.Blocks.{live_blocks}
+use Rattle.image_layout.specs.Objects.{ready_count, segment_pointer_at, segment_of, pointer_after}
 use Rattle.heap_palloc.specs.Index.{HeapIndex}
 use Rattle.heap_palloc.specs.Calls.{IsDest, MayCall, IsAllocated}
 use Rattle.txn_object.specs.Extension.{owned, allocated, segment_block, HasSegments, IsNoSegment}

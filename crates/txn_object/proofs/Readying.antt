@@ -5,10 +5,10 @@ use Rattle.std.proofs.lemmas.Bool.{cases_eq, cases_lt, eq-eqb, ne_eqb, or_left, 
 use Rattle.std.proofs.lemmas.List.{get_or-set_same, get_or-set_other, length-set}
 use Rattle.std.proofs.lemmas.Grind.{flat_map-append}
 use Rattle.pm_model.specs.declared.action.Action.{Action}
-use Rattle.pm_model.specs.Fixed.{descriptor_at, ready_at}
-use Rattle.pm_model.specs.Places.{page_at}
+use Rattle.image_layout.specs.Fixed.{descriptor_at, ready_at}
+use Rattle.image_layout.specs.Places.{page_at}
 use Rattle.pm_model.specs.Plans.{footprint, words_after, finished, plan_of, part_actions, IsPart}
-use Rattle.pm_model.specs.Objects.{ready_count}
+use Rattle.image_layout.specs.Objects.{ready_count}
 use Rattle.pm_model.proofs.Alone.{length-words_after}
 use Rattle.pm_model.proofs.PlanLaw.{words_after-kept}
 use Rattle.pm_model.proofs.Cuts.{is_among, footprint-stores, AreApartBelow, stores_part, stores-written, finished-append}

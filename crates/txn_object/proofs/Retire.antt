@@ -2,11 +2,11 @@
 use Rattle.std.proofs.Common.{◌≡◌, ◌≢◌, ◌⊎◌, inl, inr, ⊎_elim, ℕ, zero, suc, ◌+◌, ◌<◌, ◌≤◌, Bool, true, false, cond, eqb, List, [], ◌∷◌, ◌++◌, length, take, map, get_or, set, refl, sym, ◌∙◌, ap, subst, arith}
 use Rattle.std.proofs.lemmas.Bool.{cases_lt, cases_Bool, both_ways, eq-eqb, eqb-true, or_left, or_right, or_cases}
 use Rattle.std.proofs.lemmas.List.{get_or-set_same, get_or-set_other, length-set, length-append, length-map, length-take-le, get_or-take, get_or_append_left, get_or-append-add, get_or-map, map-append}
-use Rattle.pm_model.specs.Fixed.{state_at, commit_word_at, ready_at}
+use Rattle.image_layout.specs.Fixed.{state_at, commit_word_at, ready_at}
 use Rattle.pm_model.specs.Device.{IsBetween}
 use Rattle.pm_model.specs.Plans.{Part, store, stores, words_after, finished, EachCut, IsPart, IsPlan}
-use Rattle.pm_model.specs.Objects as objects
-use Rattle.pm_model.specs.Objects.{ready_count, segment_pointer_at, segment_of, entry_places}
+use Rattle.image_layout.specs.Objects as objects
+use Rattle.image_layout.specs.Objects.{ready_count, segment_pointer_at, segment_of, entry_places}
 use Rattle.pm_model.proofs.PlanLaw.{words_after-kept}
 use Rattle.pm_model.proofs.Cuts.{is_among, footprint-stores, AreApartBelow, stores_part, stores-written, stores-cut, store_part, one_store-cut, between-end, each_cut-unless_empty, finished-unless_empty, plan-unless_empty}
 use Rattle.txn_object.specs.Entries.{entry_of}

@@ -7,7 +7,7 @@ use Rattle.std.proofs.lemmas.List.Sums.{sum_by-append}
 use Rattle.std.proofs.lemmas.List.FromFn.{map-range_with_len_more}
 use Rattle.pm_model.specs.declared.action.Action.{Action}
 use Rattle.pm_model.specs.Plans.{store, stores}
-use Rattle.pm_model.proofs.Ranges.{range_more}
+use Rattle.image_layout.proofs.Ranges.{range_more}
 use Rattle.txn_object.specs.declared.entry.Entry.{Entry}
 use Rattle.txn_object.specs.Entries.{entry_of}
 

@@ -2,12 +2,12 @@
 use Rattle.std.proofs.Common.{◌≡◌, ℕ, ◌<◌, List, get_or}
 use Rattle.std.proofs.lemmas.Bool.{eqb-true}
 use Rattle.std.proofs.lemmas.List.Elements.{All-contains}
-use Rattle.pm_model.specs.Fixed.{lane_op_at}
-use Rattle.pm_model.specs.Places.{below}
-use Rattle.pm_model.specs.SoundRules.{zero_check, idle_rule, IsSound}
-use Rattle.pm_model.proofs.Heap.{Holds}
-use Rattle.pm_model.proofs.Members.{below-Contains, map-Contains}
-use Rattle.pm_model.proofs.SoundApart.{sound_apart}
+use Rattle.image_layout.specs.Fixed.{lane_op_at}
+use Rattle.image_layout.specs.Places.{below}
+use Rattle.image_layout.specs.SoundRules.{zero_check, idle_rule, IsSound}
+use Rattle.image_layout.proofs.Heap.{Holds}
+use Rattle.image_layout.proofs.Members.{below-Contains, map-Contains}
+use Rattle.image_layout.proofs.SoundApart.{sound_apart}
 use Rattle.heap_palloc.specs.Index.{HeapIndex, IsIndexOf}
 use Rattle.txn_object.specs.Calls.{MayPlanExtension}
 use Rattle.txn_object.proofs.OwnedSegments.{may_extend}

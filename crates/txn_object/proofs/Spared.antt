@@ -1,8 +1,8 @@
 -- What an object shows depends on its own words alone.
 use Rattle.std.proofs.Common.{◌≡◌, ℕ, ◌+◌, ◌<◌, ◌≤◌, false, List, [], ◌∷◌, length, map, get_or, refl, sym, ◌∙◌, ap, subst, arith}
-use Rattle.pm_model.specs.Fixed.{state_at, last_at}
+use Rattle.image_layout.specs.Fixed.{state_at, last_at}
 use Rattle.pm_model.specs.Plans.{Part, plan_of, part_actions, part_end, words_after, footprint, EachCut}
-use Rattle.pm_model.specs.Objects.{ready_count, entry_places}
+use Rattle.image_layout.specs.Objects.{ready_count, entry_places}
 use Rattle.pm_model.proofs.Alone.{length-words_after}
 use Rattle.pm_model.proofs.PlanLaw.{footprint-append, words_after-kept}
 use Rattle.pm_model.proofs.Cuts.{between-kept}

@@ -6,11 +6,11 @@ use Rattle.std.proofs.lemmas.Bool.{cases_lt, leb-true, and_parts, and_from, not_
 use Rattle.std.proofs.lemmas.List.{length-append}
 use Rattle.std.proofs.lemmas.Grind.{flat_map-append}
 use Rattle.pm_model.specs.declared.action.Action.{Action}
-use Rattle.pm_model.specs.Places.{page_count}
+use Rattle.image_layout.specs.Places.{page_count}
 use Rattle.pm_model.specs.Plans.{plan_of, part_actions}
-use Rattle.pm_model.specs.Blocks.{Block, slot_words, slots_of, slot_at, says_small, descriptor_of, class_of, bitmap_of, is_inside, is_small_page, live_blocks}
-use Rattle.pm_model.specs.Objects.{segment_of}
-use Rattle.pm_model.proofs.Heap.{page_of_block, small_class, IsSmallOf, IsBigOf}
+use Rattle.image_layout.specs.Blocks.{Block, slot_words, slots_of, slot_at, says_small, descriptor_of, class_of, bitmap_of, is_inside, is_small_page, live_blocks}
+use Rattle.image_layout.specs.Objects.{segment_of}
+use Rattle.image_layout.proofs.Heap.{page_of_block, small_class, IsSmallOf, IsBigOf}
 use Rattle.heap_big.specs.declared.run.Run.{Run}
 use Rattle.heap_palloc.specs.Parts.{allocation_parts, new_page_parts}
 use Rattle.heap_palloc.specs.Law.{IsHeapPage, taking, slot_allocation}

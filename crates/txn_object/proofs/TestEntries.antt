@@ -3,10 +3,10 @@ use Rattle.std.proofs.Common.{◌≡◌, inl, ℕ, ◌+◌, ◌*◌, ◌-◌, �
 use Rattle.std.proofs.lemmas.Bool.{le-leb}
 use Rattle.std.proofs.lemmas.List.{get_or-set_same, get_or-set_other, length-set, length-map}
 use Rattle.pm_model.specs.declared.action.Action.{Action}
-use Rattle.pm_model.specs.Fixed.{state_at, commit_word_at, ready_at, last_at}
+use Rattle.image_layout.specs.Fixed.{state_at, commit_word_at, ready_at, last_at}
 use Rattle.pm_model.specs.Device.{Device, IsClean, IsWhole}
 use Rattle.pm_model.specs.Plans.{Part, IsPlan, one_store, part_actions, plan_of, finished}
-use Rattle.pm_model.specs.Objects.{commit_word, ready_count, entry_places, entries}
+use Rattle.image_layout.specs.Objects.{commit_word, ready_count, entry_places, entries}
 use Rattle.pm_model.proofs.Cuts.{store_part, each_cut-end}
 use Rattle.heap_palloc.specs.Index.{HeapIndex, IsIndexOf}
 use Rattle.txn_object.specs.declared.entry.Entry.{Entry}

@@ -3,15 +3,15 @@ use Rattle.std.proofs.Common.{◌≡◌, ⊎_elim, ℕ, zero, suc, ◌+◌, ◌-
 use Rattle.std.proofs.lemmas.Bool.{cases_eq, cond-false, ne_eqb, eq-eqb, or_from, or_left, le-leb, le-ltb}
 use Rattle.std.proofs.lemmas.List.{get_or-map, length-map}
 use Rattle.pm_model.specs.declared.action.Action.{Action}
-use Rattle.pm_model.specs.Fixed.{state_at, commit_word_at, ready_at, last_at, first_segment_at, lane_op_at}
-use Rattle.pm_model.specs.Places.{is_pointer_to}
+use Rattle.image_layout.specs.Fixed.{state_at, commit_word_at, ready_at, last_at, first_segment_at, lane_op_at}
+use Rattle.image_layout.specs.Places.{is_pointer_to}
 use Rattle.pm_model.specs.Device.{Device, IsClean}
 use Rattle.pm_model.specs.Plans.{Part, IsPlan, plan_of, finished, at_rest}
-use Rattle.pm_model.specs.Fresh.{fresh_words}
-use Rattle.pm_model.specs.Checks.{Keeps}
-use Rattle.pm_model.specs.Objects.{commit_word, ready_count, segment_pointer_at, pointer_after, entry_places, entries}
-use Rattle.pm_model.specs.EntryRules.{object_rule}
-use Rattle.pm_model.proofs.FreshImage.{get_or-fresh_words}
+use Rattle.image_layout.specs.Fresh.{fresh_words}
+use Rattle.image_layout.specs.Checks.{Keeps}
+use Rattle.image_layout.specs.Objects.{commit_word, ready_count, segment_pointer_at, pointer_after, entry_places, entries}
+use Rattle.image_layout.specs.EntryRules.{object_rule}
+use Rattle.image_layout.proofs.FreshImage.{get_or-fresh_words}
 use Rattle.heap_palloc.specs.Index.{HeapIndex, IsIndexOf}
 use Rattle.heap_palloc.proofs.RulesKept.{fresh_rules}
 use Rattle.txn_object.specs.Object.{NoEntryFollowsZero}

@@ -7,10 +7,10 @@ use Rattle.std.proofs.lemmas.List.Elements.{filter-append}
 use Rattle.std.proofs.Math.Seq.{take-append_seam, take-append-add}
 use Rattle.std.proofs.lemmas.List.FromFn.{length-range_with_len}
 use Rattle.pm_model.specs.declared.action.Action.{Action}
-use Rattle.pm_model.specs.Fixed.{entry_at}
-use Rattle.pm_model.specs.Places.{place_in}
+use Rattle.image_layout.specs.Fixed.{entry_at}
+use Rattle.image_layout.specs.Places.{place_in}
 use Rattle.pm_model.specs.Plans.{store, stores}
-use Rattle.pm_model.specs.Objects.{ready_count, segment_pointer_at, segment_of, entry_places}
+use Rattle.image_layout.specs.Objects.{ready_count, segment_pointer_at, segment_of, entry_places}
 use Rattle.txn_object.specs.declared.entry.Entry.{Entry}
 use Rattle.txn_object.specs.Entries.{entry_of}
 use Rattle.txn_object.proofs.Places.{places_up_to, own_split, places_split, places_next, no_more_places, all_places, own_place, more_place, length-places_up_to, length-entry_places}

@@ -3,15 +3,15 @@ use Rattle.std.proofs.Common.{◌≡◌, ◌≢◌, ◌⊎◌, inl, inr, ⊎_eli
 use Rattle.std.specs.Prelude.{Contains}
 use Rattle.std.proofs.lemmas.Bool.{cases_lt, or_left, or_right, eq-eqb}
 use Rattle.pm_model.specs.declared.action.Action.{Action}
-use Rattle.pm_model.specs.Fixed.{ready_at, lane_op_at}
-use Rattle.pm_model.specs.Pointer.{pointer_word}
-use Rattle.pm_model.specs.Places.{is_pointer_to}
+use Rattle.image_layout.specs.Fixed.{ready_at, lane_op_at}
+use Rattle.image_layout.specs.Pointer.{pointer_word}
+use Rattle.image_layout.specs.Places.{is_pointer_to}
 use Rattle.pm_model.specs.Device.{Device}
 use Rattle.pm_model.specs.Plans.{Part, EachCut, IsPlan, finished, Play, IsPlaying, IsCrashImageWithin, IsTakenBack}
-use Rattle.pm_model.specs.Blocks.{Block, live_blocks}
+use Rattle.image_layout.specs.Blocks.{Block, live_blocks}
 use Rattle.heap_palloc.specs.Index.{HeapIndex, IsIndexOf}
 use Rattle.txn_object.specs.Calls.{MayPlanExtension}
-use Rattle.pm_model.specs.Objects.{ready_count, segment_pointer_at, ready_segments, segment_of, pointer_after}
+use Rattle.image_layout.specs.Objects.{ready_count, segment_pointer_at, ready_segments, segment_of, pointer_after}
 use Rattle.pm_model.proofs.Cuts.{store_part, finished-append, plan-append, each_cut-append, each_cut-map}
 use Rattle.pm_model.proofs.PlanLaw.{plan_survives_parts, plan_ended_parts}
 use Rattle.heap_palloc.specs.Lane.{mended_lane}

@@ -1,11 +1,11 @@
 -- What planning an extension relies on, and what it gives.
 use Rattle.std.specs.Prelude.{◌≡◌, ◌≢◌, ℕ, ◌<◌, List, ◌++◌, Contains, slice_index}
 use Rattle.pm_model.specs.declared.action.Action.{Action}
-use Rattle.pm_model.specs.Fixed.{lane_op_at}
-use Rattle.pm_model.specs.Places.{place_in}
+use Rattle.image_layout.specs.Fixed.{lane_op_at}
+use Rattle.image_layout.specs.Places.{place_in}
 use Rattle.pm_model.specs.Plans.{plan_of, finished}
-use Rattle.pm_model.specs.Blocks.{live_blocks, longest_free_run}
-use Rattle.pm_model.specs.Objects.{ready_count, pointer_after}
+use Rattle.image_layout.specs.Blocks.{live_blocks, longest_free_run}
+use Rattle.image_layout.specs.Objects.{ready_count, pointer_after}
 use Rattle.heap_palloc.specs.declared.error.AllocError.{AllocError}
 use Rattle.heap_palloc.specs.declared.error.AllocError.TheVariants.{Full as HeapFull, NoMemory as HeapNoMemory}
 use Rattle.heap_palloc.specs.Index.{HeapIndex, IsIndexOf}

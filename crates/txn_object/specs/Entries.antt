@@ -1,7 +1,7 @@
 -- An entry of a transaction, as a word.
 use Rattle.std.specs.Prelude.{ℕ, ◌==◌, if◌then◌else◌}
-use Rattle.pm_model.specs.Objects as objects
-use Rattle.pm_model.specs.Objects.{entry_kind, entry_table, entry_row}
+use Rattle.image_layout.specs.Objects as objects
+use Rattle.image_layout.specs.Objects.{entry_kind, entry_table, entry_row}
 use Rattle.txn_object.specs.declared.entry.Entry.{Entry}
 use Rattle.txn_object.specs.declared.entry.EntryKind.{EntryKind}
 use Rattle.txn_object.specs.declared.entry.EntryKind.TheVariants.{Created, Ended}

@@ -2,13 +2,13 @@
 -- made 0; and it is ready.
 use Rattle.std.specs.Prelude.{◌≡◌, ◌≢◌, ℕ, ◌+◌, ◌<◌, List, [], ◌∷◌, ◌++◌, Contains, slice_index}
 use Rattle.std.specs.List.{range_with_len}
-use Rattle.pm_model.specs.Fixed.{lane_op_at, ready_at}
-use Rattle.pm_model.specs.Pointer.{pointer_word}
+use Rattle.image_layout.specs.Fixed.{lane_op_at, ready_at}
+use Rattle.image_layout.specs.Pointer.{pointer_word}
 use Rattle.pm_model.specs.Plans.{Part, stores, one_store}
-use Rattle.pm_model.specs.Blocks.{Block, live_blocks}
-use Rattle.pm_model.specs.Checks.{Keeps}
-use Rattle.pm_model.specs.Objects.{ready_count, segment_of, pointer_after}
-use Rattle.pm_model.specs.EntryRules.{object_rule}
+use Rattle.image_layout.specs.Blocks.{Block, live_blocks}
+use Rattle.image_layout.specs.Checks.{Keeps}
+use Rattle.image_layout.specs.Objects.{ready_count, segment_of, pointer_after}
+use Rattle.image_layout.specs.EntryRules.{object_rule}
 use Rattle.heap_palloc.specs.Choice.{Choice, choice_parts, choice_block, IsThrough, MayMake}
 use Rattle.heap_palloc.specs.Calls.{KeepsHeapRules}
 

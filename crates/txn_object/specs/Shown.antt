@@ -2,14 +2,14 @@
 use Rattle.std.specs.Prelude.{◌≡◌, ◌≢◌, ◌⊎◌, ℕ, ◌+◌, ◌%◌, ◌^◌, ◌<◌, ◌≤◌, Bool, IsTrue, List, [], ◌∷◌, ◌++◌, length, slice_index}
 use Rattle.pm_model.specs.declared.action.Action.{Action}
 use Rattle.pm_model.specs.Device.{Device}
-use Rattle.pm_model.specs.Fixed.{state_at, commit_word_at, ready_at}
-use Rattle.pm_model.specs.Pointer.{pointer_word}
-use Rattle.pm_model.specs.Blocks.{live_blocks}
+use Rattle.image_layout.specs.Fixed.{state_at, commit_word_at, ready_at}
+use Rattle.image_layout.specs.Pointer.{pointer_word}
+use Rattle.image_layout.specs.Blocks.{live_blocks}
 use Rattle.pm_model.specs.Plans.{Play, IsPlaying, IsCrashImageWithin, IsTakenBack, finished}
-use Rattle.pm_model.specs.HeapLaws.{AreApart}
-use Rattle.pm_model.specs.Checks.{Keeps}
-use Rattle.pm_model.specs.Objects.{ready_count, segment_of, pointer_after, ready_segments, entry_places, entries}
-use Rattle.pm_model.specs.EntryRules.{object_rule}
+use Rattle.image_layout.specs.HeapLaws.{AreApart}
+use Rattle.image_layout.specs.Checks.{Keeps}
+use Rattle.image_layout.specs.Objects.{ready_count, segment_of, pointer_after, ready_segments, entry_places, entries}
+use Rattle.image_layout.specs.EntryRules.{object_rule}
 use Rattle.txn_object.specs.declared.entry.Entry.{Entry}
 use Rattle.txn_object.specs.Object.{entries_in, nth_place, NoEntryFollowsZero}
 use Rattle.txn_object.specs.Extension.{Source, owned, allocated, Extension, new_segment, extension_parts, segment_block}

@@ -1,8 +1,8 @@
 -- The words of a transaction object, and parts that leave them alone.
 use Rattle.std.specs.Prelude.{◌≡◌, ℕ, ◌<◌, ◌≤◌, false, List, length, slice_index}
-use Rattle.pm_model.specs.Fixed.{state_at, commit_word_at, ready_at}
+use Rattle.image_layout.specs.Fixed.{state_at, commit_word_at, ready_at}
 use Rattle.pm_model.specs.Plans.{Part, plan_of, footprint}
-use Rattle.pm_model.specs.Objects.{ready_count, segment_pointer_at, entry_places}
+use Rattle.image_layout.specs.Objects.{ready_count, segment_pointer_at, entry_places}
 use Rattle.txn_object.specs.Object.{nth_place}
 
 -- a word of the object: its state, its commit word, the count of its ready segments, the pointer to one of them or that

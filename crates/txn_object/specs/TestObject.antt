@@ -1,7 +1,7 @@
 -- Devices at rest as the tests have them.
 use Rattle.std.specs.Prelude.{◌≡◌, ℕ, [], length}
 use Rattle.pm_model.specs.Device.{Device, IsClean}
-use Rattle.pm_model.specs.Objects.{entries, ready_count}
+use Rattle.image_layout.specs.Objects.{entries, ready_count}
 use Rattle.heap_palloc.specs.Index.{HeapIndex}
 use Rattle.txn_object.specs.Object.{NoEntryFollowsZero}
 use Rattle.txn_object.specs.Shown.{HasObject}

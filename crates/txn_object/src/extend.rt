@@ -1,7 +1,7 @@
 // Planning the extension of a transaction object by a segment.
 ghost use Rattle.std.specs.Prelude.{◌≡◌, ◌≢◌, ◌⊎◌, ◌+◌, ◌-◌, ◌%◌, ◌<◌, ◌≤◌, ◌++◌, Err, IfOk, IfErr, OnErr, length, slice_index};
 ghost use Rattle.pm_model.specs.Plans.{plan_of};
-ghost use Rattle.pm_model.specs.Objects.{ready_count, pointer_after};
+ghost use Rattle.image_layout.specs.Objects.{ready_count, pointer_after};
 ghost use Rattle.heap_palloc.specs.Calls.{IsFull};
 ghost use Rattle.txn_object.specs.declared.error.ExtendError.TheVariants.{WriteSetFull, NoMemory as OutOfMemory};
 ghost use Rattle.txn_object.specs.Extension.{readying_parts};

@@ -2,11 +2,11 @@
 ghost use Rattle.std.specs.Prelude.{Bool, ◌≡◌, ◌≢◌, ◌⊎◌, ◌↔◌, ℕ, ◌+◌, ◌^◌, ◌%◌, ◌<◌, ◌≤◌, [], ◌∷◌, ◌++◌, IsTrue, List, length, slice_index};
 ghost use Rattle.pm_model.specs.declared.action.Action.{Action};
 ghost use Rattle.pm_model.specs.Device.{Device, IsBetween, IsClean};
-ghost use Rattle.pm_model.specs.Fixed.{last_at, state_at, commit_word_at};
+ghost use Rattle.image_layout.specs.Fixed.{last_at, state_at, commit_word_at};
 ghost use Rattle.pm_model.specs.Plans.{Part, Play, IsPlaying, IsPlan, EachCut, finished, footprint, one_store, plan_of, words_after};
-ghost use Rattle.pm_model.specs.Blocks.{live_blocks};
-ghost use Rattle.pm_model.specs.Objects.{entry_places, pointer_after};
-ghost use Rattle.pm_model.specs.SoundRules.{IsSound};
+ghost use Rattle.image_layout.specs.Blocks.{live_blocks};
+ghost use Rattle.image_layout.specs.Objects.{entry_places, pointer_after};
+ghost use Rattle.image_layout.specs.SoundRules.{IsSound};
 ghost use Rattle.heap_palloc.specs.Lane.{mended_lane};
 ghost use Rattle.heap_palloc.specs.Shown.{GainsOne};
 ghost use Rattle.txn_object.specs.declared.entry.Entry.{Entry};

@@ -1,9 +1,9 @@
 // The plans of a transaction on its object. Session k has object k - 1.
 ghost use Rattle.std.specs.Prelude.{ℕ, List, ◌≡◌, ◌+◌, ◌-◌, ◌^◌, ◌<◌, ◌≤◌, ◌||◌, ◌==◌, ◌++◌, min, not, take, length, if◌then◌else◌, IfOk, IsTrue};
 ghost use Rattle.std.specs.List.{range_with_len};
-ghost use Rattle.pm_model.specs.Checks.{Keeps};
-ghost use Rattle.pm_model.specs.EntryRules.{object_rule};
-ghost use Rattle.pm_model.specs.Objects.{entry_places};
+ghost use Rattle.image_layout.specs.Checks.{Keeps};
+ghost use Rattle.image_layout.specs.EntryRules.{object_rule};
+ghost use Rattle.image_layout.specs.Objects.{entry_places};
 ghost use Rattle.pm_model.specs.Plans.{part_actions, plan_of, stores};
 ghost use Rattle.txn_object.specs.Object.{begin_parts, entry_part, clear_part, retire_parts};
 

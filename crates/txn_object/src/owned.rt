@@ -1,8 +1,8 @@
 // What the owner words of an image say of its transaction objects.
 ghost use Rattle.std.specs.Prelude.{◌≡◌, ℕ, ◌<◌, List, slice_index};
-ghost use Rattle.pm_model.specs.Fixed.{lane_op_at};
-ghost use Rattle.pm_model.specs.EntryRules.{KeepsEntryRules};
-ghost use Rattle.pm_model.specs.Owners.{OwnersAreApart};
+ghost use Rattle.image_layout.specs.Fixed.{lane_op_at};
+ghost use Rattle.image_layout.specs.EntryRules.{KeepsEntryRules};
+ghost use Rattle.image_layout.specs.Owners.{OwnersAreApart};
 ghost use Rattle.heap_palloc.specs.Index.{HeapIndex, IsIndexOf};
 ghost use Rattle.txn_object.specs.Calls.{MayPlanExtension};
 ghost use Rattle.txn_object.specs.Extension.{HasSegments};

@@ -1,8 +1,8 @@
 // Reading the entries of a transaction object.
 ghost use Rattle.std.specs.Prelude.{◌≡◌, ◌+◌, ◌-◌, ◌<◌, ◌≤◌, ◌==◌, ◌++◌, ℕ, not, map, filter, count_by, IfOk, length, slice_index};
 ghost use Rattle.std.specs.List.{range_with_len};
-ghost use Rattle.pm_model.specs.Checks.{Keeps};
-ghost use Rattle.pm_model.specs.EntryRules.{object_rule};
+ghost use Rattle.image_layout.specs.Checks.{Keeps};
+ghost use Rattle.image_layout.specs.EntryRules.{object_rule};
 ghost use Rattle.txn_object.specs.Entries.{entry_of};
 ghost use Rattle.txn_object.specs.Object.{entries_in, free_entries_in, NoEntryFollowsZero};
 

@@ -1,9 +1,9 @@
 // Where the entries of a transaction object stand: 60 in the object, and then 255 in each of its ready segments.
 ghost use Rattle.std.specs.Prelude.{◌≡◌, ◌+◌, ◌<◌, ◌≤◌, IsTrue, length, slice_index};
-ghost use Rattle.pm_model.specs.Checks.{Keeps};
-ghost use Rattle.pm_model.specs.EntryRules.{object_rule};
-ghost use Rattle.pm_model.specs.Objects.{entry_places, ready_count, segment_pointer_at};
-ghost use Rattle.pm_model.specs.Places.{is_pointer, place_in};
+ghost use Rattle.image_layout.specs.Checks.{Keeps};
+ghost use Rattle.image_layout.specs.EntryRules.{object_rule};
+ghost use Rattle.image_layout.specs.Objects.{entry_places, ready_count, segment_pointer_at};
+ghost use Rattle.image_layout.specs.Places.{is_pointer, place_in};
 ghost use Rattle.txn_object.specs.Object.{nth_place};
 
 use pm_model::{

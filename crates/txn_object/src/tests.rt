@@ -1,7 +1,7 @@
 ghost use Rattle.std.specs.Prelude.{◌≡◌, ℕ, ◌<◌, ◌≤◌, List, IfOk, OnErr, length};
-ghost use Rattle.pm_model.specs.Checks.{Keeps};
+ghost use Rattle.image_layout.specs.Checks.{Keeps};
 ghost use Rattle.pm_model.specs.Device.{IsClean};
-ghost use Rattle.pm_model.specs.EntryRules.{object_rule};
+ghost use Rattle.image_layout.specs.EntryRules.{object_rule};
 ghost use Rattle.pm_model.specs.Plain.{device_of};
 ghost use Rattle.pm_model.specs.Plans.{Part, IsPlan, finished, plan_of};
 ghost use Rattle.txn_object.specs.TestObject.{IsExtendable};

@@ -1,7 +1,7 @@
 use Rattle.std.proofs.Common.{◌∙◌, ℕ, ◌*◌, ◌/◌, ◌%◌, ◌^◌, List, ap, arith}
 use Rattle.std.proofs.lemmas.List.{length-set}
 use Rattle.std.proofs.lemmas.List.FromFn.{fill_by_all}
-use Rattle.pm_model.specs.Places.{packed_byte}
+use Rattle.image_layout.specs.Places.{packed_byte}
 use Rattle.catalog.proofs.Lists.{stored_byte}
 use Rattle.catalog.proofs.reading.read_bytes.Goals as goal
 

@@ -1,5 +1,5 @@
 use Rattle.std.proofs.Common.{◌≡◌, ℕ, ◌<◌, length, get_or}
-use Rattle.pm_model.specs.Places.{packed_byte}
+use Rattle.image_layout.specs.Places.{packed_byte}
 use Rattle.catalog.proofs.reading.read_bytes.Given as goal
 
 abbrev pub invariant-loop-byte : goal.invariant-loop-byte

@@ -2,7 +2,7 @@ use Rattle.std.proofs.Common.{◌≡◌, ◌∙◌, ℕ, List, get_or, sym, ap, 
 use Rattle.std.specs.Prelude.{IsTrue}
 use Rattle.mv_model.specs.Name.{is_name}
 use Rattle.shown_state.specs.LogicalState.{name_at, kind_of}
-use Rattle.pm_model.specs.Tables.{is_text}
+use Rattle.image_layout.specs.Tables.{is_text}
 use Rattle.catalog.proofs.Lists.{column_same, kind_text, kind_int}
 use Rattle.catalog.proofs.reading.read_column.Goals as goal
 use Rattle.catalog.proofs.reading.read_column.Goals.{then-load-eq-TEXT, else-load-eq-TEXT}

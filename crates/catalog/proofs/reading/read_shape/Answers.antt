@@ -2,8 +2,8 @@ use Rattle.std.proofs.Common.{◌∙◌, ℕ, ◌++◌, [], ◌∷◌, List, len
 use Rattle.std.specs.Prelude.{IsTrue}
 use Rattle.mv_model.specs.Name.{is_name}
 use Rattle.mv_model.specs.declared.shape.Column.{Column}
-use Rattle.pm_model.specs.Places.{below}
-use Rattle.pm_model.specs.Records.{column_at, column_name_at}
+use Rattle.image_layout.specs.Places.{below}
+use Rattle.image_layout.specs.Records.{column_at, column_name_at}
 use Rattle.shown_state.specs.LogicalState.{column_of, name_at}
 use Rattle.catalog.proofs.Lists.{mapped_next, mapped_count}
 use Rattle.catalog.proofs.reading.read_shape.Goals as goal

@@ -1,6 +1,6 @@
 use Rattle.std.proofs.Common.{◌≡◌, map}
-use Rattle.pm_model.specs.Places.{below}
-use Rattle.pm_model.specs.Records.{column_at}
+use Rattle.image_layout.specs.Places.{below}
+use Rattle.image_layout.specs.Records.{column_at}
 use Rattle.shown_state.specs.LogicalState.{column_of}
 use Rattle.catalog.proofs.reading.read_shape.Given as goal
 

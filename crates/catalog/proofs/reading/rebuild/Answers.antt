@@ -1,7 +1,7 @@
 use Rattle.std.proofs.Common.{◌∙◌, ◌<◌, ℕ, ◌++◌, [], ◌∷◌, List, length, map, get_or, sym, ap, arith}
-use Rattle.pm_model.specs.Places.{below}
-use Rattle.pm_model.specs.Tables.{table_count}
-use Rattle.pm_model.proofs.TableSlots.{few_tables}
+use Rattle.image_layout.specs.Places.{below}
+use Rattle.image_layout.specs.Tables.{table_count}
+use Rattle.image_layout.proofs.TableSlots.{few_tables}
 use Rattle.catalog.specs.Entries.{CatalogTable, published_table}
 use Rattle.catalog.proofs.Lists.{map_next, map_count}
 use Rattle.catalog.proofs.Rebuilding.{shows_table}

@@ -1,6 +1,6 @@
 use Rattle.std.proofs.Common.{◌≡◌, map}
 use Rattle.std.specs.Prelude.{None}
-use Rattle.pm_model.specs.Places.{below}
+use Rattle.image_layout.specs.Places.{below}
 use Rattle.catalog.specs.Entries.{published_table}
 use Rattle.catalog.proofs.reading.rebuild.Given as goal
 

@@ -2,7 +2,7 @@ use Rattle.std.proofs.Common.{◌≡◌, ◌∙◌, ℕ, ◌+◌, ◌<◌, get_o
 use Rattle.mv_model.specs.declared.call.Call.TheVariants as call
 use Rattle.mv_model.specs.declared.reply.Reply.TheVariants as reply
 use Rattle.mv_model.specs.declared.limits.TheConstants.{MAX_COMMITS}
-use Rattle.pm_model.specs.Fixed.{last_at}
+use Rattle.image_layout.specs.Fixed.{last_at}
 use Rattle.engine_core.specs.Stage.{high_at}
 use Rattle.engine_core.proofs.Answered.{closes, spent, stands}
 use Rattle.engine_core.proofs.Commits.{commit-decided, commit-planned}

@@ -1,7 +1,7 @@
 use Rattle.std.proofs.Common.{◌≡◌, ◌≤◌, map}
 use Rattle.std.specs.Prelude.{vec_len, vec_capacity}
 use Rattle.std.specs.List.{range_with_len}
-use Rattle.pm_model.specs.Fixed.{entry_at}
+use Rattle.image_layout.specs.Fixed.{entry_at}
 use Rattle.pm_model.specs.Plans.{stores}
 use Rattle.engine_core.proofs.opening.clear_stores.Given as goal
 

@@ -1,5 +1,5 @@
 use Rattle.std.proofs.Common.{◌≡◌, ℕ, get_or, max, arith, sym, ◌∙◌, ap}
-use Rattle.pm_model.specs.Fixed.{last_at, commit_word_at}
+use Rattle.image_layout.specs.Fixed.{last_at, commit_word_at}
 use Rattle.engine_core.specs.LogicalState.{greatest, of_open}
 use Rattle.engine_core.proofs.OpeningPlans.{greatest-more, greatest-none}
 use Rattle.engine_core.proofs.opening.count_commits.Goals as goal

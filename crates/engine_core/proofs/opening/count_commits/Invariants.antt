@@ -1,5 +1,5 @@
 use Rattle.std.proofs.Common.{◌≡◌, get_or}
-use Rattle.pm_model.specs.Fixed.{commit_word_at}
+use Rattle.image_layout.specs.Fixed.{commit_word_at}
 use Rattle.engine_core.specs.LogicalState.{greatest, of_open}
 use Rattle.engine_core.proofs.opening.count_commits.Given as goal
 

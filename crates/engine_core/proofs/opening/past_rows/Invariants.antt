@@ -1,5 +1,5 @@
 use Rattle.std.proofs.Common.{◌≡◌, get_or}
-use Rattle.pm_model.specs.Fixed.{entry_at}
+use Rattle.image_layout.specs.Fixed.{entry_at}
 use Rattle.engine_core.specs.LogicalState.{greatest, past_entry}
 use Rattle.engine_core.proofs.opening.past_rows.Given as goal
 

@@ -1,5 +1,5 @@
 use Rattle.std.proofs.Common.{sym, ◌∙◌, arith}
-use Rattle.pm_model.specs.Checks.{first_failing}
+use Rattle.image_layout.specs.Checks.{first_failing}
 use Rattle.engine_core.specs.ImageRules.{object_checks, object_rule}
 use Rattle.engine_core.proofs.Checking.{objects-start, tried-some, tried-none, tried-all}
 use Rattle.engine_core.proofs.rules.bad_object.Goals as goal

@@ -1,5 +1,5 @@
 use Rattle.std.proofs.Common.{ℕ, get_or, ap, sym, ◌∙◌, arith}
-use Rattle.pm_model.specs.Checks.{first_failing}
+use Rattle.image_layout.specs.Checks.{first_failing}
 use Rattle.engine_core.specs.ImageRules.{entry_checks}
 use Rattle.engine_core.proofs.Checking.{open-start, open-none, tried-some, tried-none, tried-all, entry_check}
 use Rattle.engine_core.proofs.rules.bad_open_entry.Goals as goal

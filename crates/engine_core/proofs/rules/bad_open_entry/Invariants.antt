@@ -1,5 +1,5 @@
 use Rattle.std.proofs.Common.{◌≡◌}
-use Rattle.pm_model.specs.Checks.{first_failing}
+use Rattle.image_layout.specs.Checks.{first_failing}
 use Rattle.engine_core.specs.ImageRules.{entry_checks}
 use Rattle.engine_core.proofs.Checking.{checks_left, entry_check}
 use Rattle.engine_core.proofs.rules.bad_open_entry.Given as goal

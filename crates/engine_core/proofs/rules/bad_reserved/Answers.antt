@@ -1,6 +1,6 @@
 use Rattle.std.proofs.Common.{sym, ◌∙◌, arith}
-use Rattle.pm_model.specs.Places.{page_count}
-use Rattle.pm_model.specs.Checks.{first_failing}
+use Rattle.image_layout.specs.Places.{page_count}
+use Rattle.image_layout.specs.Checks.{first_failing}
 use Rattle.engine_core.specs.ImageRules.{reserved_rule}
 use Rattle.engine_core.proofs.Checking.{pages-start, tried-some, tried-none, tried-all, page_check}
 use Rattle.engine_core.proofs.rules.bad_reserved.Goals as goal

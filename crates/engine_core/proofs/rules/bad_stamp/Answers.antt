@@ -1,6 +1,6 @@
 use Rattle.std.proofs.Common.{◌≡◌, ℕ, ◌<◌, ◌≤◌, List, Some, get_or, ap, sym, ◌∙◌, arith}
 use Rattle.engine_core.specs.Stage.{high_at}
-use Rattle.pm_model.specs.Checks.{first_failing}
+use Rattle.image_layout.specs.Checks.{first_failing}
 use Rattle.engine_core.specs.ImageRules.{row_checks, stamp_rule}
 use Rattle.engine_core.proofs.Checking.{rows-start, high-fails, tried-some, tried-none, tried-all}
 use Rattle.engine_core.proofs.rules.bad_stamp.Goals as goal

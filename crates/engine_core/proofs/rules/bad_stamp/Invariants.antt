@@ -1,5 +1,5 @@
 use Rattle.std.proofs.Common.{◌≡◌}
-use Rattle.pm_model.specs.Checks.{first_failing}
+use Rattle.image_layout.specs.Checks.{first_failing}
 use Rattle.engine_core.specs.ImageRules.{row_checks, stamp_rule}
 use Rattle.engine_core.proofs.Checking.{checks_left}
 use Rattle.engine_core.proofs.rules.bad_stamp.Given as goal

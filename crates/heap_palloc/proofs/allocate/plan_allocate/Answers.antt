@@ -1,6 +1,6 @@
 use Rattle.std.proofs.Common.{refl, sym, ◌∙◌, rules}
 use Rattle.std.proofs.lemmas.Bool.{true≢false}
-use Rattle.pm_model.proofs.SlotSizes.{least_is, least_low}
+use Rattle.image_layout.proofs.SlotSizes.{least_is, least_low}
 use Rattle.heap_palloc.proofs.Choosing.{slot_allocated, new_page_allocated, pages_allocated, ok_map, at_most, allocated_fits}
 use Rattle.heap_palloc.proofs.allocate.plan_allocate.Goals as goal
 

@@ -1,5 +1,5 @@
 use Rattle.std.proofs.Common.{◌≡◌, ◌⊎◌, ◌<◌, inl, inr, sym, ◌∙◌, ap, subst, arith}
-use Rattle.pm_model.specs.Blocks.{longest_free_run}
+use Rattle.image_layout.specs.Blocks.{longest_free_run}
 use Rattle.heap_palloc.specs.declared.error.AllocError.TheVariants.{Full, NoMemory as OutOfMemory}
 use Rattle.heap_palloc.specs.Index.{HeapIndex}
 use Rattle.heap_palloc.proofs.Allocating.{dest_in_device}

@@ -1,5 +1,5 @@
 use Rattle.std.proofs.Common.{◌≡◌, ◌⊎◌, ℕ, ◌+◌, ◌*◌, ◌<◌, inr, refl, ◌∙◌, ap}
-use Rattle.pm_model.specs.Blocks.{longest_free_run}
+use Rattle.image_layout.specs.Blocks.{longest_free_run}
 use Rattle.heap_palloc.specs.declared.error.AllocError.TheVariants.{Full, NoMemory as OutOfMemory}
 use Rattle.heap_palloc.proofs.Allocating.{dest_in_device}
 use Rattle.heap_palloc.proofs.PageCalls.{TookRun, pages_planned, none_long, handed_on}

@@ -1,5 +1,5 @@
 use Rattle.std.proofs.Common.{◌≡◌, ℕ, ◌*◌, ◌<◌, inl, inr, get_or, sym, ◌∙◌, ap, subst, arith}
-use Rattle.pm_model.specs.Blocks.{bitmap_of, slots_of}
+use Rattle.image_layout.specs.Blocks.{bitmap_of, slots_of}
 use Rattle.heap_small.specs.Bitmap.{IsFirstClear}
 use Rattle.heap_palloc.specs.Index.{HeapIndex}
 use Rattle.heap_palloc.proofs.Allocating.{dest_in_device}

@@ -1,6 +1,6 @@
 use Rattle.std.proofs.Common.{◌≡◌, ◌≢◌, ◌⊎◌, inl, inr, ℕ, ◌-◌, ◌/◌, ◌%◌, ◌++◌, refl, sym, ◌∙◌, ap, subst, arith}
 use Rattle.heap_palloc.specs.Lane.{is_big_place}
-use Rattle.pm_model.specs.Fixed.{descriptor_at}
+use Rattle.image_layout.specs.Fixed.{descriptor_at}
 use Rattle.pm_model.specs.Plans.{one_store, part_actions}
 use Rattle.heap_palloc.specs.Index.{HeapIndex}
 use Rattle.heap_palloc.proofs.Freeing.{slot_page, slot_value, slot_number, slot_page_in, slot_read, read_has_room, read_no_room, read_not_free, read_within, read_released, ReleasesAt, GaveBack, gave_back}

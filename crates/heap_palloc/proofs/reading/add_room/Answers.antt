@@ -1,7 +1,7 @@
 use Rattle.std.proofs.Common.{◌≡◌, ℕ, ◌+◌, ◌-◌, ◌*◌, List, [], ◌∷◌, true, false, get_or, refl, sym, ◌∙◌, ap, arith}
 use Rattle.heap_big.specs.Pages.{GainsOne, IsRising}
 use Rattle.heap_big.proofs.Rising.{gains-settled, rising-least}
-use Rattle.pm_model.specs.Blocks.{class_of, bitmap_of}
+use Rattle.image_layout.specs.Blocks.{class_of, bitmap_of}
 use Rattle.heap_palloc.specs.Index.{rooms_of, is_full}
 use Rattle.heap_palloc.proofs.Scans.{add_hit, add_miss}
 use Rattle.heap_palloc.proofs.SlotCalls.{full_is}

@@ -1,6 +1,6 @@
 use Rattle.std.proofs.Common.{ℕ, ◌+◌, List, refl, sym, ◌∙◌, subst, arith}
 use Rattle.std.specs.Prelude.{Contains}
-use Rattle.pm_model.specs.Places.{page_count}
+use Rattle.image_layout.specs.Places.{page_count}
 use Rattle.heap_big.specs.Pages.{IsRising}
 use Rattle.heap_palloc.specs.Index.{has_room, rooms_of}
 use Rattle.heap_big.proofs.Rising.{rising-lower}

@@ -2,8 +2,8 @@ use Rattle.std.proofs.Common.{◌≡◌, ℕ, ◌<◌, ◌++◌, true}
 use Rattle.std.specs.Prelude.{Contains}
 use Rattle.std.specs.List.{filter}
 use Rattle.std.specs.Vec.{vec_len}
-use Rattle.pm_model.specs.Places.{page_count}
-use Rattle.pm_model.specs.Blocks.{is_small_page}
+use Rattle.image_layout.specs.Places.{page_count}
+use Rattle.image_layout.specs.Blocks.{is_small_page}
 use Rattle.heap_big.specs.Pages.{IsRising}
 use Rattle.heap_palloc.specs.Index.{has_room, rooms_of, pages_with_room}
 use Rattle.heap_palloc.proofs.reading.add_rooms.Given as goal

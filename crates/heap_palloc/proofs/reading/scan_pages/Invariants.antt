@@ -1,8 +1,8 @@
 use Rattle.std.proofs.Common.{◌≡◌, ◌*◌, ◌≤◌, map}
 use Rattle.std.specs.List.{range_with_len, filter}
 use Rattle.std.specs.Vec.{vec_len, vec_capacity}
-use Rattle.pm_model.specs.Places.{page_count}
-use Rattle.pm_model.specs.Blocks.{descriptor_of, is_small_page}
+use Rattle.image_layout.specs.Places.{page_count}
+use Rattle.image_layout.specs.Blocks.{descriptor_of, is_small_page}
 use Rattle.heap_palloc.proofs.reading.scan_pages.Given as goal
 
 abbrev pub invariant-loop-segment : goal.invariant-loop-segment

@@ -1,6 +1,6 @@
 use Rattle.std.proofs.Common.{◌≡◌, ◌≢◌, ◌⊎◌, inl, inr, ℕ, ◌+◌, ◌*◌, ◌≤◌, false, get_or, refl, sym, ◌∙◌, ap, subst, arith}
 use Rattle.std.specs.Vec.{vec_len, vec_capacity}
-use Rattle.pm_model.specs.Blocks.{descriptor_of, says_small}
+use Rattle.image_layout.specs.Blocks.{descriptor_of, says_small}
 use Rattle.heap_palloc.proofs.Scans.{inside_step, small_hit, small_miss, value_more, small_done}
 use Rattle.heap_palloc.proofs.reading.scan_segment.Goals as goal
 use Rattle.heap_palloc.proofs.reading.scan_segment.Goals.{then-inside-eq0+then-is_small, else-inside-eq0, else-inside-eq0-via-then-inside-eq0+else-is_small, else-inside-eq0-via-else-inside-eq0}

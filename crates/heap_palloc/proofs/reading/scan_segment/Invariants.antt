@@ -1,7 +1,7 @@
 use Rattle.std.proofs.Common.{◌≡◌, ◌+◌, ◌*◌, ◌≤◌, ◌++◌, map}
 use Rattle.std.specs.List.{range_with_len, filter}
 use Rattle.std.specs.Vec.{vec_len, vec_capacity}
-use Rattle.pm_model.specs.Blocks.{descriptor_of, inside_at, is_small_page}
+use Rattle.image_layout.specs.Blocks.{descriptor_of, inside_at, is_small_page}
 use Rattle.heap_palloc.proofs.reading.scan_segment.Given as goal
 
 abbrev pub invariant-loop-page : goal.invariant-loop-page

@@ -1,5 +1,5 @@
 use Rattle.std.proofs.Common.{◌+◌, ◌-◌, get_or, refl, sym, ◌∙◌, ap, arith}
-use Rattle.pm_model.specs.Records.{column_name_at}
+use Rattle.image_layout.specs.Records.{column_name_at}
 use Rattle.image_rules.proofs.DistinctChecks.{column_repeats, column_differs}
 use Rattle.image_rules.proofs.distinct_rules.column_repeat.Goals as goal
 

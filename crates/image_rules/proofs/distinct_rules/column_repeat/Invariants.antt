@@ -1,5 +1,5 @@
 use Rattle.std.proofs.Common.{◌≡◌, ◌-◌, get_or}
-use Rattle.pm_model.specs.Checks.{first_failing}
+use Rattle.image_layout.specs.Checks.{first_failing}
 use Rattle.image_rules.proofs.DistinctChecks.{columns_from}
 use Rattle.image_rules.proofs.distinct_rules.column_repeat.Given as goal
 

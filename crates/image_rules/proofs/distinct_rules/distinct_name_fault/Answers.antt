@@ -1,6 +1,6 @@
 use Rattle.std.proofs.Common.{ℕ, ◌+◌, ◌-◌, refl, sym, ◌∙◌, ap, arith}
-use Rattle.pm_model.specs.Tables.{table_count}
-use Rattle.pm_model.specs.Checks.{first_failing}
+use Rattle.image_layout.specs.Tables.{table_count}
+use Rattle.image_layout.specs.Checks.{first_failing}
 use Rattle.image_rules.proofs.DistinctChecks.{tables_from, table_repeats, columns_repeat, table_differs, all_tables}
 use Rattle.image_rules.proofs.distinct_rules.distinct_name_fault.Goals as goal
 

@@ -1,7 +1,7 @@
 use Rattle.std.proofs.Common.{◌≡◌, ◌-◌}
-use Rattle.pm_model.specs.Tables.{table_count}
-use Rattle.pm_model.specs.Checks.{first_failing}
-use Rattle.pm_model.specs.SoundRules.{distinct_name_rule}
+use Rattle.image_layout.specs.Tables.{table_count}
+use Rattle.image_layout.specs.Checks.{first_failing}
+use Rattle.image_layout.specs.SoundRules.{distinct_name_rule}
 use Rattle.image_rules.proofs.DistinctChecks.{tables_from}
 use Rattle.image_rules.proofs.distinct_rules.distinct_name_fault.Given as goal
 

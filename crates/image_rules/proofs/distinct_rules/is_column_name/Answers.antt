@@ -1,6 +1,6 @@
 use Rattle.std.proofs.Common.{sym, ◌∙◌, ap}
-use Rattle.pm_model.specs.Records.{column_at, column_name_at}
-use Rattle.pm_model.specs.SoundRules.{same_name}
+use Rattle.image_layout.specs.Records.{column_at, column_name_at}
+use Rattle.image_layout.specs.SoundRules.{same_name}
 use Rattle.image_rules.proofs.DistinctChecks.{any_later}
 use Rattle.image_rules.proofs.distinct_rules.is_column_name.Goals as goal
 

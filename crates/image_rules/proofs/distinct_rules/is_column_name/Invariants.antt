@@ -1,7 +1,7 @@
 use Rattle.std.proofs.Common.{◌≡◌, false}
 use Rattle.std.specs.List.{list_any}
-use Rattle.pm_model.specs.Records.{column_at, column_name_at}
-use Rattle.pm_model.specs.SoundRules.{same_name}
+use Rattle.image_layout.specs.Records.{column_at, column_name_at}
+use Rattle.image_layout.specs.SoundRules.{same_name}
 use Rattle.image_rules.specs.Parts.{before_of}
 use Rattle.image_rules.proofs.distinct_rules.is_column_name.Given as goal
 

@@ -1,7 +1,7 @@
 use Rattle.std.proofs.Common.{sym, ◌∙◌, ap}
-use Rattle.pm_model.specs.Records.{table_name_at}
-use Rattle.pm_model.specs.Tables.{table_block}
-use Rattle.pm_model.specs.SoundRules.{same_name}
+use Rattle.image_layout.specs.Records.{table_name_at}
+use Rattle.image_layout.specs.Tables.{table_block}
+use Rattle.image_layout.specs.SoundRules.{same_name}
 use Rattle.image_rules.proofs.DistinctChecks.{any_later}
 use Rattle.image_rules.proofs.distinct_rules.is_table_name.Goals as goal
 

@@ -1,8 +1,8 @@
 use Rattle.std.proofs.Common.{◌≡◌, false}
 use Rattle.std.specs.List.{list_any}
-use Rattle.pm_model.specs.Records.{table_name_at}
-use Rattle.pm_model.specs.Tables.{table_block}
-use Rattle.pm_model.specs.SoundRules.{same_name}
+use Rattle.image_layout.specs.Records.{table_name_at}
+use Rattle.image_layout.specs.Tables.{table_block}
+use Rattle.image_layout.specs.SoundRules.{same_name}
 use Rattle.image_rules.specs.Parts.{before_of}
 use Rattle.image_rules.proofs.distinct_rules.is_table_name.Given as goal
 

@@ -1,5 +1,5 @@
 use Rattle.std.proofs.Common.{◌≡◌, ℕ, true, get_or, sym, subst}
-use Rattle.pm_model.specs.Places.{is_pointer_to}
+use Rattle.image_layout.specs.Places.{is_pointer_to}
 use Rattle.image_rules.proofs.TableChecks.{pointed_some}
 use Rattle.image_rules.proofs.EntryChecks.{segment_pointed}
 use Rattle.image_rules.proofs.entry_rules.next_segment.Goals as goal

@@ -1,7 +1,7 @@
 use Rattle.std.proofs.Common.{ℕ, ◌+◌, ◌-◌, get_or, refl, sym, ◌∙◌, ap, arith}
-use Rattle.pm_model.specs.Objects.{ready_count}
-use Rattle.pm_model.specs.Checks.{first_failing}
-use Rattle.pm_model.specs.EntryRules.{entry_checks}
+use Rattle.image_layout.specs.Objects.{ready_count}
+use Rattle.image_layout.specs.Checks.{first_failing}
+use Rattle.image_layout.specs.EntryRules.{entry_checks}
 use Rattle.image_rules.proofs.ObjectChecks.{next_pointer}
 use Rattle.image_rules.proofs.EntryChecks.{segment_entries, own_found, own_pass, segment_found, segment_pass}
 use Rattle.image_rules.proofs.entry_rules.object_entries_fault.Goals as goal

@@ -1,7 +1,7 @@
 use Rattle.std.proofs.Common.{◌≡◌, ◌-◌, ◌<◌, length}
-use Rattle.pm_model.specs.Objects.{entry_places, ready_count, segment_pointer_at}
-use Rattle.pm_model.specs.Checks.{first_failing}
-use Rattle.pm_model.specs.EntryRules.{entry_checks}
+use Rattle.image_layout.specs.Objects.{entry_places, ready_count, segment_pointer_at}
+use Rattle.image_layout.specs.Checks.{first_failing}
+use Rattle.image_layout.specs.EntryRules.{entry_checks}
 use Rattle.image_rules.proofs.EntryChecks.{segment_entries}
 use Rattle.image_rules.proofs.entry_rules.object_entries_fault.Given as goal
 

@@ -1,7 +1,7 @@
 use Rattle.std.proofs.Common.{◌≡◌, ℕ, ◌<◌, ◌≤◌, List, get_or, sym, subst, arith}
-use Rattle.pm_model.specs.Fixed.{ready_at}
-use Rattle.pm_model.specs.Checks.{Keeps}
-use Rattle.pm_model.specs.EntryRules.{objects_rule}
+use Rattle.image_layout.specs.Fixed.{ready_at}
+use Rattle.image_layout.specs.Checks.{Keeps}
+use Rattle.image_layout.specs.EntryRules.{objects_rule}
 use Rattle.image_rules.proofs.EntryChecks.{ready_most}
 use Rattle.image_rules.proofs.entry_rules.ready_count.Goals as goal
 

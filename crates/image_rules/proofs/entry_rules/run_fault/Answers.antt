@@ -1,8 +1,8 @@
 use Rattle.std.proofs.Common.{◌≡◌, ◌≢◌, ◌⊎◌, inl, inr, ℕ, ◌+◌, ◌-◌, false, true, get_or, sym, ◌∙◌, ap, arith}
 use Rattle.std.specs.List.{range_with_len}
 use Rattle.std.proofs.lemmas.Bool.{eq-eqb, not-true, not-false, both_ways}
-use Rattle.pm_model.specs.Checks.{first_failing}
-use Rattle.pm_model.specs.EntryRules.{entry_checks, is_entry}
+use Rattle.image_layout.specs.Checks.{first_failing}
+use Rattle.image_layout.specs.EntryRules.{entry_checks, is_entry}
 use Rattle.image_rules.proofs.EntryChecks.{run_fails, run_goes}
 use Rattle.image_rules.proofs.entry_rules.run_fault.Goals as goal
 use Rattle.image_rules.proofs.entry_rules.run_fault.Goals.{then-before-eq0, else-before-eq0, else-word-ne0-via-then-word-ne0+else-not-is_entry, else-word-ne0-via-else-word-ne0}

@@ -1,7 +1,7 @@
 use Rattle.std.proofs.Common.{◌≡◌, ◌+◌, ◌-◌}
 use Rattle.std.specs.List.{range_with_len}
-use Rattle.pm_model.specs.Checks.{first_failing}
-use Rattle.pm_model.specs.EntryRules.{entry_checks}
+use Rattle.image_layout.specs.Checks.{first_failing}
+use Rattle.image_layout.specs.EntryRules.{entry_checks}
 use Rattle.image_rules.proofs.entry_rules.run_fault.Given as goal
 
 abbrev pub invariant-loop-entry : goal.invariant-loop-entry

@@ -1,7 +1,7 @@
 use Rattle.std.proofs.Common.{ℕ, ◌≤◌, get_or, sym, ◌∙◌, ap, subst, arith}
-use Rattle.pm_model.specs.Records.{created_header, ended_header}
+use Rattle.image_layout.specs.Records.{created_header, ended_header}
 use Rattle.image_rules.proofs.ArrayChecks.{table_kept, created_kept, ended_kept}
-use Rattle.pm_model.proofs.TableSlots.{few_tables}
+use Rattle.image_layout.proofs.TableSlots.{few_tables}
 use Rattle.image_rules.proofs.entry_rules.stamped_capacity.Goals as goal
 
 pub table_block-block-requires-clause-table : goal.table_block-block-requires-clause-table

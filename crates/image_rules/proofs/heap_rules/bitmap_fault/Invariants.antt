@@ -1,5 +1,5 @@
 use Rattle.std.proofs.Common.{◌≡◌, ℕ, ◌/◌, ◌%◌, ◌^◌, ◌<◌, true, ltb}
-use Rattle.pm_model.specs.Blocks.{inside_at, slots_of, is_small_page, class_of, bitmap_of}
+use Rattle.image_layout.specs.Blocks.{inside_at, slots_of, is_small_page, class_of, bitmap_of}
 use Rattle.image_rules.proofs.heap_rules.bitmap_fault.Given as goal
 
 abbrev pub invariant-loop-page : goal.invariant-loop-page

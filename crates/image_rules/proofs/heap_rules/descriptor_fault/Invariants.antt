@@ -1,7 +1,7 @@
 use Rattle.std.proofs.Common.{◌≡◌, ℕ, ◌/◌, ◌%◌, ◌<◌, true, not, ◌&&◌, get_or}
-use Rattle.pm_model.specs.Fixed.{descriptor_at}
-use Rattle.pm_model.specs.Blocks.{inside_at, is_inside, is_reserved}
-use Rattle.pm_model.specs.HeapRules.{is_descriptor}
+use Rattle.image_layout.specs.Fixed.{descriptor_at}
+use Rattle.image_layout.specs.Blocks.{inside_at, is_inside, is_reserved}
+use Rattle.image_layout.specs.HeapRules.{is_descriptor}
 use Rattle.image_rules.proofs.heap_rules.descriptor_fault.Given as goal
 
 abbrev pub invariant-loop-page : goal.invariant-loop-page

@@ -1,5 +1,5 @@
 use Rattle.std.proofs.Common.{◌≡◌, ℕ, ◌*◌, ◌/◌, ◌%◌, sym, ◌∙◌, ap, arith}
-use Rattle.pm_model.specs.Blocks.{inside_at}
+use Rattle.image_layout.specs.Blocks.{inside_at}
 use Rattle.image_rules.proofs.HeapChecks.{inside-is, inside-step}
 use Rattle.image_rules.proofs.heap_rules.is_inside.Goals as goal
 

@@ -1,5 +1,5 @@
 use Rattle.std.proofs.Common.{◌≡◌, ◌/◌, ◌%◌}
-use Rattle.pm_model.specs.Blocks.{inside_at}
+use Rattle.image_layout.specs.Blocks.{inside_at}
 use Rattle.image_rules.proofs.heap_rules.is_inside.Given as goal
 
 abbrev pub invariant-loop-before : goal.invariant-loop-before

@@ -1,6 +1,6 @@
 use Rattle.std.proofs.Common.{◌≡◌, ℕ, ◌<◌, true, eqb, get_or}
-use Rattle.pm_model.specs.Fixed.{descriptor_at}
-use Rattle.pm_model.specs.Blocks.{is_reserved}
+use Rattle.image_layout.specs.Fixed.{descriptor_at}
+use Rattle.image_layout.specs.Blocks.{is_reserved}
 use Rattle.image_rules.proofs.heap_rules.reserved_fault.Given as goal
 
 abbrev pub invariant-loop-page : goal.invariant-loop-page

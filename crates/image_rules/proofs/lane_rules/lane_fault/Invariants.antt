@@ -1,5 +1,5 @@
 use Rattle.std.proofs.Common.{◌≡◌, ℕ, ◌<◌, true}
-use Rattle.pm_model.specs.HeapRules.{is_lane}
+use Rattle.image_layout.specs.HeapRules.{is_lane}
 use Rattle.image_rules.proofs.lane_rules.lane_fault.Given as goal
 
 abbrev pub invariant-loop-lane : goal.invariant-loop-lane

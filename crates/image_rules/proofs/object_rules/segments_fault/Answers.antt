@@ -1,5 +1,5 @@
 use Rattle.std.proofs.Common.{◌≡◌, refl, sym, ◌∙◌, ap, below_more, subst, ◌+◌, arith}
-use Rattle.pm_model.specs.Objects.{segment_pointer_at}
+use Rattle.image_layout.specs.Objects.{segment_pointer_at}
 use Rattle.image_rules.proofs.ObjectChecks.{SegmentsBelow, found_true, next_is, no_pointer, reached_before, segment_holds, reached_more, segment_fails, after_is}
 use Rattle.image_rules.proofs.object_rules.segments_fault.Goals as goal
 

@@ -1,7 +1,7 @@
 use Rattle.std.proofs.Common.{◌≡◌, ℕ, ◌<◌, true, length, take, map}
-use Rattle.pm_model.specs.Places.{below}
-use Rattle.pm_model.specs.Objects.{segment_pointer_at, segment_of}
-use Rattle.pm_model.specs.EntryRules.{is_segment_pointer}
+use Rattle.image_layout.specs.Places.{below}
+use Rattle.image_layout.specs.Objects.{segment_pointer_at, segment_of}
+use Rattle.image_layout.specs.EntryRules.{is_segment_pointer}
 use Rattle.image_rules.proofs.object_rules.segments_fault.Given as goal
 
 abbrev pub invariant-loop-segment : goal.invariant-loop-segment

@@ -1,6 +1,6 @@
 use Rattle.std.proofs.Common.{◌≡◌, ℕ, ◌-◌, ◌/◌, ◌%◌, get_or, refl, sym, ◌∙◌, ap}
-use Rattle.pm_model.specs.Fixed.{descriptor_at}
-use Rattle.pm_model.specs.Blocks.{says_small, bitmap_of}
+use Rattle.image_layout.specs.Fixed.{descriptor_at}
+use Rattle.image_layout.specs.Blocks.{says_small, bitmap_of}
 use Rattle.image_rules.specs.BuiltOwners.{is_slot_block, is_head_block}
 use Rattle.image_rules.proofs.LiveChecks.{none_inside, slot_live, head_live}
 use Rattle.image_rules.proofs.owner_rules.is_live.Goals as goal

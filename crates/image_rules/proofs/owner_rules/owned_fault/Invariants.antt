@@ -1,5 +1,5 @@
 use Rattle.std.proofs.Common.{◌≡◌, ◌/◌, ◌%◌}
-use Rattle.pm_model.specs.Blocks.{inside_at}
+use Rattle.image_layout.specs.Blocks.{inside_at}
 use Rattle.image_rules.proofs.OwnedChecks.{PagesBelow}
 use Rattle.image_rules.proofs.owner_rules.owned_fault.Given as goal
 

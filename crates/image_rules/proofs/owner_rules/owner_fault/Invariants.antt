@@ -1,5 +1,5 @@
 use Rattle.std.proofs.Common.{◌≡◌}
-use Rattle.pm_model.specs.Checks.{first_failing}
+use Rattle.image_layout.specs.Checks.{first_failing}
 use Rattle.image_rules.specs.BuiltOwners.{built_owner_rule}
 use Rattle.image_rules.proofs.OwnerChecks.{blocks_from}
 use Rattle.image_rules.proofs.owner_rules.owner_fault.Given as goal

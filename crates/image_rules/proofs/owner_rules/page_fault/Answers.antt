@@ -1,7 +1,7 @@
 use Rattle.std.proofs.Common.{◌≡◌, ℕ, ◌-◌, ◌*◌, Bool, List, [], ◌∷◌, map, get_or, sym, ◌∙◌, ap}
-use Rattle.pm_model.specs.Fixed.{descriptor_at}
-use Rattle.pm_model.specs.Blocks.{Block, says_small, says_big, bitmap_of}
-use Rattle.pm_model.specs.Checks.{check, first_failing}
+use Rattle.image_layout.specs.Fixed.{descriptor_at}
+use Rattle.image_layout.specs.Blocks.{Block, says_small, says_big, bitmap_of}
+use Rattle.image_layout.specs.Checks.{check, first_failing}
 use Rattle.image_rules.specs.BuiltOwners.{kept_check, slot_blocks}
 use Rattle.image_rules.proofs.Firsts.{lone}
 use Rattle.image_rules.proofs.OwnedChecks.{blocks_small, blocks_free, blocks_head}

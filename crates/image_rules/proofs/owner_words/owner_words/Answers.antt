@@ -1,6 +1,6 @@
 use Rattle.std.proofs.Common.{◌≡◌, ℕ, ◌++◌, [], ◌∙◌, ap, arith}
-use Rattle.pm_model.specs.Tables.{table_count}
-use Rattle.pm_model.specs.Owners.{object_owners}
+use Rattle.image_layout.specs.Tables.{table_count}
+use Rattle.image_layout.specs.Owners.{object_owners}
 use Rattle.image_rules.specs.BuiltOwners.{built_table_owners}
 use Rattle.image_rules.proofs.OwnerWalk.{read, parts, parts_next, all_read}
 use Rattle.image_rules.proofs.owner_words.owner_words.Goals as goal

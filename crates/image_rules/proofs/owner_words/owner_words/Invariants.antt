@@ -1,5 +1,5 @@
 use Rattle.std.proofs.Common.{◌≡◌, ◌++◌}
-use Rattle.pm_model.specs.Owners.{object_owners}
+use Rattle.image_layout.specs.Owners.{object_owners}
 use Rattle.image_rules.specs.BuiltOwners.{built_table_owners}
 use Rattle.image_rules.proofs.OwnerWalk.{read, parts}
 use Rattle.image_rules.proofs.owner_words.owner_words.Given as goal

@@ -1,6 +1,6 @@
 use Rattle.std.proofs.Common.{ℕ, ◌∙◌, ap, rules}
-use Rattle.pm_model.specs.Owners.{owner_of, chunk_owner}
-use Rattle.pm_model.specs.Arrays.{chunk_pointer_at}
+use Rattle.image_layout.specs.Owners.{owner_of, chunk_owner}
+use Rattle.image_layout.specs.Arrays.{chunk_pointer_at}
 use Rattle.image_rules.proofs.OwnerWalk.{named_next}
 use Rattle.image_rules.proofs.owner_words.push_array_owners.Goals as goal
 

@@ -1,5 +1,5 @@
 use Rattle.std.proofs.Common.{◌≡◌, ◌++◌}
-use Rattle.pm_model.specs.Owners.{chunk_owner}
+use Rattle.image_layout.specs.Owners.{chunk_owner}
 use Rattle.image_rules.proofs.OwnerWalk.{read, named}
 use Rattle.image_rules.proofs.owner_words.push_array_owners.Given as goal
 

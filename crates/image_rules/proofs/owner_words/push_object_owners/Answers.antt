@@ -1,7 +1,7 @@
 use Rattle.std.proofs.Common.{◌≡◌, ℕ, ◌+◌, ◌++◌, sym, ◌∙◌, ap, arith}
 use Rattle.std.specs.Prelude.{Result, Ok, Err, IfOk}
-use Rattle.pm_model.specs.Objects.{ready_count}
-use Rattle.pm_model.specs.Owners.{owner_of, segment_owner}
+use Rattle.image_layout.specs.Objects.{ready_count}
+use Rattle.image_layout.specs.Owners.{owner_of, segment_owner}
 use Rattle.image_rules.proofs.ObjectChecks.{next_pointer}
 use Rattle.image_rules.proofs.OwnerWalk.{named_next, read, named}
 use Rattle.image_rules.proofs.owner_words.push_object_owners.Goals as goal

@@ -1,6 +1,6 @@
 use Rattle.std.proofs.Common.{◌≡◌, ◌<◌, ◌++◌, length}
-use Rattle.pm_model.specs.Objects.{segment_pointer_at}
-use Rattle.pm_model.specs.Owners.{segment_owner}
+use Rattle.image_layout.specs.Objects.{segment_pointer_at}
+use Rattle.image_layout.specs.Owners.{segment_owner}
 use Rattle.image_rules.proofs.OwnerWalk.{read, named}
 use Rattle.image_rules.proofs.owner_words.push_object_owners.Given as goal
 

@@ -1,6 +1,6 @@
 use Rattle.std.proofs.Common.{◌≡◌, ℕ, ◌++◌, ◌∙◌, ap, arith}
-use Rattle.pm_model.specs.Records.{table_words}
-use Rattle.pm_model.specs.Owners.{array_owners}
+use Rattle.image_layout.specs.Records.{table_words}
+use Rattle.image_layout.specs.Owners.{array_owners}
 use Rattle.image_rules.specs.BuiltOwners.{built_column_owners}
 use Rattle.image_rules.proofs.OwnerWalk.{read, parts, numbered_columns, parts_next, table_read}
 use Rattle.image_rules.proofs.owner_words.push_table_owners.Goals as goal

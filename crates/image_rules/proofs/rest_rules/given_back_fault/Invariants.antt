@@ -1,5 +1,5 @@
 use Rattle.std.proofs.Common.{◌≡◌, ◌/◌, ◌%◌}
-use Rattle.pm_model.specs.Blocks.{inside_at}
+use Rattle.image_layout.specs.Blocks.{inside_at}
 use Rattle.image_rules.proofs.RestChecks.{PagesZero}
 use Rattle.image_rules.proofs.rest_rules.given_back_fault.Given as goal
 

@@ -1,5 +1,5 @@
 use Rattle.std.proofs.Common.{◌≡◌, ◌<◌, length}
-use Rattle.pm_model.specs.Objects.{segment_pointer_at}
+use Rattle.image_layout.specs.Objects.{segment_pointer_at}
 use Rattle.image_rules.proofs.RestChecks.{SegmentsZero}
 use Rattle.image_rules.proofs.rest_rules.open_word.Given as goal
 

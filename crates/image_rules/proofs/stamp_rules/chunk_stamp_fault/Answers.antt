@@ -1,7 +1,7 @@
 use Rattle.std.proofs.Common.{◌+◌, ◌<◌, length, sym, ◌∙◌, below_more, arith}
-use Rattle.pm_model.specs.Arrays.{capacity_of, chunk_words}
-use Rattle.pm_model.specs.Checks.{first_failing}
-use Rattle.pm_model.specs.SoundRules.{row_checks}
+use Rattle.image_layout.specs.Arrays.{capacity_of, chunk_words}
+use Rattle.image_layout.specs.Checks.{first_failing}
+use Rattle.image_layout.specs.SoundRules.{row_checks}
 use Rattle.image_rules.proofs.Firsts.{found_none}
 use Rattle.image_rules.proofs.TableArrays.{created_rule, ended_rule}
 use Rattle.image_rules.proofs.StampChecks.{place_fits, place_inside, row_at, row_found, rows_none, header_at}

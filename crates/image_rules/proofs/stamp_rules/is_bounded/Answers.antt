@@ -1,6 +1,6 @@
 use Rattle.std.proofs.Common.{◌≤◌, ◌∙◌, ap, get_or, below_more, arith}
-use Rattle.pm_model.specs.Arrays.{capacity}
-use Rattle.pm_model.specs.Records.{created_header, ended_header, codes_header, column_at, high_at}
+use Rattle.image_layout.specs.Arrays.{capacity}
+use Rattle.image_layout.specs.Records.{created_header, ended_header, codes_header, column_at, high_at}
 use Rattle.image_rules.proofs.TableArrays.{count_few, created_rule, ended_rule, codes_rule}
 use Rattle.image_rules.proofs.StampChecks.{created_short, ended_short, codes_short, all_reach, over, within}
 use Rattle.image_rules.proofs.stamp_rules.is_bounded.Goals as goal

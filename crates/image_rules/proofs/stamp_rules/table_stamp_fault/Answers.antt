@@ -1,5 +1,5 @@
 use Rattle.std.proofs.Common.{ℕ, ◌≡◌, max, get_or, sym, ◌∙◌, ap, below_more, arith}
-use Rattle.pm_model.specs.Records.{created_header, ended_header}
+use Rattle.image_layout.specs.Records.{created_header, ended_header}
 use Rattle.image_rules.proofs.Firsts.{found_none}
 use Rattle.image_rules.proofs.TableArrays.{count_few, created_rule, ended_rule}
 use Rattle.image_rules.proofs.StampChecks.{high_fails, chunk_found, chunks_none, created_reaches}

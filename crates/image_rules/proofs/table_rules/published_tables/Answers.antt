@@ -1,7 +1,7 @@
 use Rattle.std.proofs.Common.{◌≡◌, ℕ, ◌≤◌, List, get_or, sym, subst, arith}
-use Rattle.pm_model.specs.Checks.{Keeps}
-use Rattle.pm_model.specs.EntryRules.{table_count_rule}
-use Rattle.pm_model.proofs.TableSlots.{few_tables}
+use Rattle.image_layout.specs.Checks.{Keeps}
+use Rattle.image_layout.specs.EntryRules.{table_count_rule}
+use Rattle.image_layout.proofs.TableSlots.{few_tables}
 use Rattle.image_rules.proofs.table_rules.published_tables.Goals as goal
 
 -- the word of the table count

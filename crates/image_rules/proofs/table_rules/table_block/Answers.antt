@@ -1,8 +1,8 @@
 use Rattle.std.proofs.Common.{◌≡◌, ℕ, true, get_or, sym, ◌∙◌, ap, subst}
-use Rattle.pm_model.specs.Places.{place_in}
-use Rattle.pm_model.specs.EntryRules.{is_table_pointer}
+use Rattle.image_layout.specs.Places.{place_in}
+use Rattle.image_layout.specs.EntryRules.{is_table_pointer}
 use Rattle.image_rules.specs.Parts.{IsTableBlock}
-use Rattle.pm_model.proofs.TableSlots.{slot_pointer, pointer_parts}
+use Rattle.image_layout.proofs.TableSlots.{slot_pointer, pointer_parts}
 use Rattle.image_rules.proofs.TableChecks.{is_block, pointed_some}
 use Rattle.image_rules.proofs.table_rules.table_block.Goals as goal
 

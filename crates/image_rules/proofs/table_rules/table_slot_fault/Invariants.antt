@@ -1,5 +1,5 @@
 use Rattle.std.proofs.Common.{◌≡◌, ℕ, ◌<◌, true}
-use Rattle.pm_model.specs.EntryRules.{is_table_slot}
+use Rattle.image_layout.specs.EntryRules.{is_table_slot}
 use Rattle.image_rules.proofs.table_rules.table_slot_fault.Given as goal
 
 abbrev pub invariant-loop-table : goal.invariant-loop-table

@@ -1,5 +1,5 @@
 use Rattle.std.proofs.Common.{sym, ◌∙◌}
-use Rattle.pm_model.specs.EntryRules.{table_slot_rule, objects_rule}
+use Rattle.image_layout.specs.EntryRules.{table_slot_rule, objects_rule}
 use Rattle.image_rules.proofs.Kept.{kept}
 use Rattle.image_rules.proofs.tests.owner_faults.Goals as goal
 

@@ -1,4 +1,4 @@
-use Rattle.pm_model.specs.EntryRules.{table_count_rule, table_slot_rule, arrays_rule, objects_rule}
+use Rattle.image_layout.specs.EntryRules.{table_count_rule, table_slot_rule, arrays_rule, objects_rule}
 use Rattle.image_rules.proofs.Firsts.{kept_rule}
 use Rattle.img_check.proofs.checking.check.Goals as goal
 

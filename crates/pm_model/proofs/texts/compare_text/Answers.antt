@@ -1,8 +1,8 @@
 use Rattle.std.proofs.Common.{◌≡◌, ℕ, ◌<◌, length, get_or, sym, ap, ◌∙◌, arith, inl, inr}
 use Rattle.std.specs.Ordering.{nat_cmp}
 use Rattle.std.proofs.lemmas.Bool.{cases_lt}
-use Rattle.pm_model.specs.Trees.{text_at, text_length}
-use Rattle.pm_model.proofs.TextOrder.{byte_of_text, decided_greater, decided_less, ends_greater, ends_less, goes_on, length_of_text}
+use Rattle.image_layout.specs.Trees.{text_at, text_length}
+use Rattle.image_layout.proofs.TextOrder.{byte_of_text, decided_greater, decided_less, ends_greater, ends_less, goes_on, length_of_text}
 use Rattle.pm_model.proofs.texts.compare_text.Goals as goal
 
 pub returns-then-is_ne-clause-less : goal.returns-then-is_ne-clause-less

@@ -1,5 +1,5 @@
-use Rattle.pm_model.specs.Trees.{text_at}
-use Rattle.pm_model.proofs.TextOrder.{Alike}
+use Rattle.image_layout.specs.Trees.{text_at}
+use Rattle.image_layout.proofs.TextOrder.{Alike}
 use Rattle.pm_model.proofs.texts.compare_text.Given as goal
 
 abbrev pub invariant-loop-place : goal.invariant-loop-place

@@ -1,7 +1,7 @@
 use Rattle.std.proofs.Common.{◌≡◌, List, [], ◌∷◌, ◌++◌, map, ◌∙◌, ap, arith}
-use Rattle.pm_model.specs.declared.place.Place.{Place}
-use Rattle.pm_model.specs.Fixed.{commit_word_at}
-use Rattle.pm_model.specs.Objects.{entry_places}
+use Rattle.image_layout.specs.declared.place.Place.{Place}
+use Rattle.image_layout.specs.Fixed.{commit_word_at}
+use Rattle.image_layout.specs.Objects.{entry_places}
 use Rattle.pm_model.specs.Plans.{plan_of, unless_empty}
 use Rattle.pm_model.specs.Needed.{needed_stores}
 use Rattle.pmem_recover.specs.declared.change.Change.{Change}

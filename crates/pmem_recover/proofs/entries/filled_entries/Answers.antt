@@ -1,8 +1,8 @@
 use Rattle.std.proofs.Common.{◌≡◌, ℕ, List, add-one, get_or, sym, ◌∙◌, ap, arith}
 use Rattle.std.specs.Prelude.{filter}
-use Rattle.pm_model.specs.Fixed.{first_segment_at, ready_at}
-use Rattle.pm_model.specs.Objects.{ready_count, segment_of, segment_pointer_at}
-use Rattle.pm_model.specs.Places.{place_in}
+use Rattle.image_layout.specs.Fixed.{first_segment_at, ready_at}
+use Rattle.image_layout.specs.Objects.{ready_count, segment_of, segment_pointer_at}
+use Rattle.image_layout.specs.Places.{place_in}
 use Rattle.pmem_recover.specs.Filled.{is_filled, places_of}
 use Rattle.pmem_recover.proofs.Gathered.{ready-few, segment-pointer, segment-within, segments-none, segments-next, entries-all}
 use Rattle.pmem_recover.proofs.entries.filled_entries.Goals as goal

@@ -1,6 +1,6 @@
 use Rattle.std.proofs.Common.{◌≡◌, ◌+◌, ◌*◌, ◌<◌, ◌≤◌, length}
 use Rattle.std.specs.Prelude.{filter, vec_len}
-use Rattle.pm_model.specs.Objects.{segment_pointer_at}
+use Rattle.image_layout.specs.Objects.{segment_pointer_at}
 use Rattle.pmem_recover.specs.Filled.{is_filled, places_of}
 use Rattle.pmem_recover.proofs.Gathered.{entries_up_to}
 use Rattle.pmem_recover.proofs.entries.filled_entries.Given as goal

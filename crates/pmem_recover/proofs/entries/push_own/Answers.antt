@@ -1,7 +1,7 @@
 use Rattle.std.proofs.Common.{◌≡◌, ℕ, ◌++◌, map, ◌∙◌, ap, arith}
 use Rattle.std.specs.Prelude.{filter}
-use Rattle.pm_model.specs.Fixed.{entry_at}
-use Rattle.pm_model.specs.Places.{below}
+use Rattle.image_layout.specs.Fixed.{entry_at}
+use Rattle.image_layout.specs.Places.{below}
 use Rattle.pmem_recover.specs.Filled.{is_filled, places_of}
 use Rattle.pmem_recover.proofs.Gathered.{gather-next, gather-none}
 use Rattle.pmem_recover.proofs.entries.push_own.Goals as goal

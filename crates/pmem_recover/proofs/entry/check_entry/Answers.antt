@@ -1,4 +1,4 @@
-use Rattle.pm_model.specs.EntryRules.{table_slot_rule, arrays_rule, objects_rule}
+use Rattle.image_layout.specs.EntryRules.{table_slot_rule, arrays_rule, objects_rule}
 use Rattle.image_rules.proofs.Firsts.{kept_rule}
 use Rattle.pmem_recover.proofs.entry.check_entry.Goals as goal
 

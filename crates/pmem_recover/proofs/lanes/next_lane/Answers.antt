@@ -1,6 +1,6 @@
 use Rattle.std.proofs.Common.{◌≡◌, ◌≢◌, ⊎_elim, ℕ, ◌<◌, [], false, get_or, refl, sym, ◌∙◌, ap, arith}
 use Rattle.std.proofs.lemmas.Bool.{cases_eq, both_ways}
-use Rattle.pm_model.specs.Fixed.{lane_op_at}
+use Rattle.image_layout.specs.Fixed.{lane_op_at}
 use Rattle.shown_state.specs.Mending.{lane_mending}
 use Rattle.shown_state.proofs.LaneMending.{at_work}
 use Rattle.pmem_recover.specs.Steps.{step_parts}

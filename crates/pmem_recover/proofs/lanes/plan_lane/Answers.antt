@@ -1,8 +1,8 @@
 use Rattle.std.proofs.Common.{◌≡◌, ◌≢◌, ℕ, ◌%◌, get_or, sym, ◌∙◌, ap, subst}
 use Rattle.std.specs.Prelude.{IsTrue}
-use Rattle.pm_model.specs.Fixed.{lane_op_at, lane_dest_at, lane_block_at}
-use Rattle.pm_model.specs.Places.{place_in, is_pointer}
-use Rattle.pm_model.specs.Blocks.{is_slot}
+use Rattle.image_layout.specs.Fixed.{lane_op_at, lane_dest_at, lane_block_at}
+use Rattle.image_layout.specs.Places.{place_in, is_pointer}
+use Rattle.image_layout.specs.Blocks.{is_slot}
 use Rattle.pmem_recover.specs.Lanes.{release}
 use Rattle.shown_state.proofs.LaneMending.{at_work, block_pointer, block_slot, work-other}
 use Rattle.pmem_recover.proofs.LaneChanges.{planned-freeing, planned-done, planned-undone}

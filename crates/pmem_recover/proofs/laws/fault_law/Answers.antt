@@ -1,4 +1,4 @@
-use Rattle.pm_model.proofs.Faults.{no_fault}
+use Rattle.image_layout.proofs.Faults.{no_fault}
 use Rattle.pmem_recover.proofs.FirstFault.{entry-lanes}
 use Rattle.pmem_recover.proofs.laws.fault_law.Goals as goal
 

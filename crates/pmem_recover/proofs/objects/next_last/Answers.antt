@@ -1,7 +1,7 @@
 use Rattle.std.proofs.Common.{◌≡◌, ℕ, [], ◌∷◌, ◌++◌, get_or, false, sym, ◌∙◌, ap, refl, arith}
 use Rattle.std.proofs.lemmas.Bool.{both_ways}
-use Rattle.pm_model.specs.Fixed.{last_at}
-use Rattle.pm_model.specs.Objects.{last_commit}
+use Rattle.image_layout.specs.Fixed.{last_at}
+use Rattle.image_layout.specs.Objects.{last_commit}
 use Rattle.pm_model.specs.Plans.{one_store, part_actions}
 use Rattle.shown_state.specs.Mending.{last_mending}
 use Rattle.pmem_recover.specs.Steps.{step_parts}

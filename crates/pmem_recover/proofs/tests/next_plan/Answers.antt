@@ -1,6 +1,6 @@
 use Rattle.std.proofs.Common.{ℕ, List, ◌∙◌, subst}
-use Rattle.pm_model.specs.Checks.{Keeps}
-use Rattle.pm_model.specs.EntryRules.{objects_rule, table_slot_rule}
+use Rattle.image_layout.specs.Checks.{Keeps}
+use Rattle.image_layout.specs.EntryRules.{objects_rule, table_slot_rule}
 use Rattle.shown_state.specs.LaneRules.{KeepsLaneRules}
 use Rattle.pmem_recover.specs.Undo.{KeepsUndoRules}
 use Rattle.pmem_recover.proofs.FirstFault.{entry-lanes, entry-undo}

@@ -3,13 +3,13 @@ use Rattle.std.specs.Prelude.{IsTrue}
 use Rattle.std.specs.List.{flat_map}
 use Rattle.std.proofs.lemmas.Bool.{eq-eqb}
 use Rattle.std.proofs.lemmas.Result.{IfOk-weaker}
-use Rattle.pm_model.specs.declared.place.Place.{Place}
-use Rattle.pm_model.specs.Fixed.{state_at, commit_word_at}
-use Rattle.pm_model.specs.Places.{below}
+use Rattle.image_layout.specs.declared.place.Place.{Place}
+use Rattle.image_layout.specs.Fixed.{state_at, commit_word_at}
+use Rattle.image_layout.specs.Places.{below}
 use Rattle.pm_model.specs.Plans.{plan_of}
-use Rattle.pm_model.specs.Tables.{table_count}
-use Rattle.pm_model.specs.Objects.{is_open, entry_places}
-use Rattle.pm_model.specs.EntryRules.{is_entry}
+use Rattle.image_layout.specs.Tables.{table_count}
+use Rattle.image_layout.specs.Objects.{is_open, entry_places}
+use Rattle.image_layout.specs.EntryRules.{is_entry}
 use Rattle.shown_state.specs.Mending.{undo_entry}
 use Rattle.pmem_recover.specs.declared.change.Change.{Change}
 use Rattle.pmem_recover.specs.Changes.{change, change_part}

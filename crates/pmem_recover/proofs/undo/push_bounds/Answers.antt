@@ -1,6 +1,6 @@
 use Rattle.std.proofs.Common.{◌≡◌, ℕ, ◌<◌, List, length, get_or, ◌∙◌, ap, arith}
-use Rattle.pm_model.specs.Fixed.{table_count_at}
-use Rattle.pm_model.specs.Tables.{table_count}
+use Rattle.image_layout.specs.Fixed.{table_count_at}
+use Rattle.image_layout.specs.Tables.{table_count}
 use Rattle.pmem_recover.specs.Changes.{change, change_part}
 use Rattle.pmem_recover.specs.Undo.{words_at}
 use Rattle.pmem_recover.proofs.Undoing.{bounds-next, bound-is, raised, within-push}

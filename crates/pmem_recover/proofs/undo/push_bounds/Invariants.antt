@@ -1,9 +1,9 @@
 use Rattle.std.proofs.Common.{◌≡◌, ◌+◌, ◌<◌, ◌++◌, All, get_or, length, map, max}
 use Rattle.std.specs.Prelude.{vec_len, vec_capacity}
-use Rattle.pm_model.specs.Places.{below}
+use Rattle.image_layout.specs.Places.{below}
 use Rattle.pm_model.specs.Plans.{store}
-use Rattle.pm_model.specs.Records.{high_at}
-use Rattle.pm_model.specs.Tables.{table_block}
+use Rattle.image_layout.specs.Records.{high_at}
+use Rattle.image_layout.specs.Tables.{table_block}
 use Rattle.shown_state.specs.LogicalState.{row_bound}
 use Rattle.pmem_recover.specs.Changes.{change_part}
 use Rattle.pmem_recover.specs.Undo.{words_at, created_among}

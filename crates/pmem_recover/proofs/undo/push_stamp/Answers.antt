@@ -1,7 +1,7 @@
 use Rattle.std.proofs.Common.{◌≡◌, ℕ, ◌<◌, List, length, ◌∙◌, ap, arith}
-use Rattle.pm_model.specs.Fixed.{table_slot_at}
-use Rattle.pm_model.specs.Objects.{entry_table}
-use Rattle.pm_model.specs.Tables.{table_count}
+use Rattle.image_layout.specs.Fixed.{table_slot_at}
+use Rattle.image_layout.specs.Objects.{entry_table}
+use Rattle.image_layout.specs.Tables.{table_count}
 use Rattle.txn_object.specs.declared.entry.Entry.{Entry}
 use Rattle.pmem_recover.proofs.Undoing.{within-push}
 use Rattle.pmem_recover.proofs.UndoRules.{tables-few, table-pointer, table-within, keeps-created, keeps-ended, entry-parts, named-block}

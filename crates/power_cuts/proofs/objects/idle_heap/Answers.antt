@@ -1,5 +1,5 @@
 use Rattle.std.proofs.Common.{arith}
-use Rattle.pm_model.proofs.OwnedBlocks.{one_object}
+use Rattle.image_layout.proofs.OwnedBlocks.{one_object}
 use Rattle.power_cuts.proofs.Kept.{keeps_objects}
 use Rattle.power_cuts.proofs.Extending.{idle_extendable}
 use Rattle.power_cuts.proofs.objects.idle_heap.Goals as goal

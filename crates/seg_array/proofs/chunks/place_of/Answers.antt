@@ -1,7 +1,7 @@
 use Rattle.std.proofs.Common.{◌≡◌, ℕ, true, List, sym, ◌∙◌, ap, subst, arith, get_or}
-use Rattle.pm_model.specs.Places.{place_in, is_pointer}
-use Rattle.pm_model.specs.Arrays.{capacity_of, chunk_pointer_at}
-use Rattle.pm_model.proofs.ChunkSizes.{capacity-rises}
+use Rattle.image_layout.specs.Places.{place_in, is_pointer}
+use Rattle.image_layout.specs.Arrays.{capacity_of, chunk_pointer_at}
+use Rattle.image_layout.proofs.ChunkSizes.{capacity-rises}
 use Rattle.seg_array.proofs.Headers.{at_most_12, index_chunk, index_named, place_within}
 use Rattle.seg_array.proofs.chunks.place_of.Goals as goal
 

@@ -1,6 +1,6 @@
 use Rattle.std.proofs.Common.{◌∙◌, ℕ, ◌++◌, ap, arith}
 use Rattle.pm_model.specs.Plans.{plan_of}
-use Rattle.pm_model.specs.Arrays.{chunk_pages}
+use Rattle.image_layout.specs.Arrays.{chunk_pages}
 use Rattle.seg_array.specs.Growth.{publishing_parts}
 use Rattle.seg_array.proofs.Planning.{header_in_image, most_chunks, planned_page, grown_planned}
 use Rattle.seg_array.proofs.grow.plan_grow.Goals as goal

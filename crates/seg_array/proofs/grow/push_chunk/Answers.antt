@@ -1,7 +1,7 @@
 use Rattle.std.proofs.Common.{◌≡◌, ◌∙◌, ℕ, ◌*◌, ◌/◌, ◌<◌, ◌++◌, true, List, get_or, ap, sym, subst, arith}
 use Rattle.pm_model.specs.declared.action.Action.{Action}
-use Rattle.pm_model.specs.Places.{place_in, is_pointer}
-use Rattle.pm_model.specs.Arrays.{chunk_pages, chunk_pointer_at}
+use Rattle.image_layout.specs.Places.{place_in, is_pointer}
+use Rattle.image_layout.specs.Arrays.{chunk_pages, chunk_pointer_at}
 use Rattle.seg_array.specs.Calls.{IsChunkPlanned}
 use Rattle.seg_array.proofs.Planning.{pages_most, header_in_image, named, owned_planned, allocated_here, allocated_planned, allocated_length, planned_page}
 use Rattle.seg_array.proofs.grow.push_chunk.Goals as goal

@@ -1,4 +1,4 @@
-use Rattle.pm_model.proofs.SoundApart.{sound_apart}
+use Rattle.image_layout.proofs.SoundApart.{sound_apart}
 use Rattle.shown_state.proofs.OneOwner.{sound_has_owners}
 use Rattle.shown_state.proofs.laws.owner_law.Goals as goal
 

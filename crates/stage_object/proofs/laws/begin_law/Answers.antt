@@ -1,4 +1,4 @@
-use Rattle.pm_model.specs.Fixed.{state_at}
+use Rattle.image_layout.specs.Fixed.{state_at}
 use Rattle.pm_model.proofs.Cuts.{one_store-cut}
 use Rattle.txn_object.proofs.Entering.{others-one_store, clean-one_store}
 use Rattle.stage_object.proofs.OneStore.{begin_after, begin_shows, begin_ends}

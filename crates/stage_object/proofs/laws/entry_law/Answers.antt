@@ -1,4 +1,4 @@
-use Rattle.pm_model.specs.Fixed.{entry_at}
+use Rattle.image_layout.specs.Fixed.{entry_at}
 use Rattle.txn_object.specs.Entries.{entry_word}
 use Rattle.txn_object.proofs.Entering.{others-one_store, clean-one_store}
 use Rattle.pm_model.proofs.Cuts.{one_store-cut}

@@ -1,4 +1,4 @@
-use Rattle.pm_model.specs.Fixed.{state_at}
+use Rattle.image_layout.specs.Fixed.{state_at}
 use Rattle.stage_object.proofs.Clears.{length-plan_of-retire}
 use Rattle.pm_model.proofs.Cuts.{one_store-cut}
 use Rattle.stage_object.proofs.Retire.{retire_plan, retire_writes, retire_idle, retire_each, retire_ends, retire_shows, retire_empty}

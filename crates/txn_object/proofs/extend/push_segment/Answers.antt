@@ -1,7 +1,7 @@
 use Rattle.std.proofs.Common.{◌≡◌, ◌<◌, ◌∙◌, ℕ, true, List, get_or, ap, sym, subst, arith}
 use Rattle.pm_model.specs.declared.action.Action.{Action}
-use Rattle.pm_model.specs.Places.{place_in, is_pointer}
-use Rattle.pm_model.specs.Objects.{ready_count, segment_pointer_at}
+use Rattle.image_layout.specs.Places.{place_in, is_pointer}
+use Rattle.image_layout.specs.Objects.{ready_count, segment_pointer_at}
 use Rattle.txn_object.specs.Calls.{IsSegmentPlanned}
 use Rattle.txn_object.proofs.Rule.{named_after}
 use Rattle.txn_object.proofs.Planning.{owned_planned, allocated_planned, allocated_length, allocated_here}

@@ -1,5 +1,5 @@
 use Rattle.std.proofs.Common.{◌≡◌, inl, inr, ⊎_elim, ℕ, List, set, sym, subst, arith}
-use Rattle.pm_model.specs.Fixed.{state_at}
+use Rattle.image_layout.specs.Fixed.{state_at}
 use Rattle.pm_model.proofs.Cuts.{one_store-cut}
 use Rattle.txn_object.specs.Shown.{Shows, HasObject}
 use Rattle.txn_object.proofs.Entering.{cut-one_store, ended-one_store, others-one_store, clean-one_store, state_object, state_shows}

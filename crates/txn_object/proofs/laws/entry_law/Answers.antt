@@ -1,5 +1,5 @@
 use Rattle.std.proofs.Common.{◌≡◌, inl, inr, ⊎_elim, ℕ, List, [], ◌∷◌, ◌++◌, set, get_or, sym, subst}
-use Rattle.pm_model.specs.Objects.{entry_places}
+use Rattle.image_layout.specs.Objects.{entry_places}
 use Rattle.pm_model.proofs.Cuts.{store_part, one_store-cut}
 use Rattle.txn_object.specs.Entries.{entry_word}
 use Rattle.txn_object.specs.Object.{NoEntryFollowsZero}

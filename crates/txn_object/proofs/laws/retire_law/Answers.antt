@@ -1,6 +1,6 @@
 use Rattle.std.proofs.Common.{◌≡◌, ◌≤◌, ℕ, List, length, arith}
 use Rattle.std.proofs.lemmas.List.{length-map}
-use Rattle.pm_model.specs.Objects.{entries}
+use Rattle.image_layout.specs.Objects.{entries}
 use Rattle.txn_object.specs.Entries.{entry_of}
 use Rattle.txn_object.proofs.Retire.{retire_plan, retire_each, retire_ends, retire_shows, retire_free}
 use Rattle.txn_object.proofs.Parts.{retire_object, retire_segments, retire_goes_on, retire_begins}

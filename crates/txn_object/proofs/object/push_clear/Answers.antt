@@ -1,10 +1,10 @@
 use Rattle.std.proofs.Common.{◌≡◌, ⊎_elim, ◌<◌, ◌≤◌, ◌+◌, ◌++◌, ◌∙◌, ℕ, Bool, List, length, cond, ap, sym, arith}
 use Rattle.pm_model.specs.declared.action.Action.{Action}
-use Rattle.pm_model.specs.Objects.{entry_places}
+use Rattle.image_layout.specs.Objects.{entry_places}
 use Rattle.pm_model.specs.Plans.{part_actions}
 use mir.Val.{bool_byte}
-use Rattle.pm_model.specs.Checks.{Keeps}
-use Rattle.pm_model.specs.EntryRules.{object_rule}
+use Rattle.image_layout.specs.Checks.{Keeps}
+use Rattle.image_layout.specs.EntryRules.{object_rule}
 use Rattle.pm_model.proofs.Lines.{length-part_actions}
 use Rattle.std.proofs.lemmas.Bool.{cases_lt}
 use Rattle.txn_object.specs.Object.{clear_part}

@@ -1,7 +1,7 @@
 use Rattle.std.proofs.Common.{◌≡◌, ◌+◌, ◌-◌, ◌*◌, ◌<◌, ◌≤◌, ◌∙◌, ◌++◌, ℕ, true, min, take, List, ap, sym, subst, get_or, length, arith}
-use Rattle.pm_model.specs.Places.{is_pointer}
+use Rattle.image_layout.specs.Places.{is_pointer}
 use Rattle.pm_model.specs.Plans.{stores}
-use Rattle.pm_model.specs.Objects.{ready_count, entry_places}
+use Rattle.image_layout.specs.Objects.{ready_count, entry_places}
 use Rattle.txn_object.proofs.Rule.{named, pointer_in, within}
 use Rattle.txn_object.proofs.Places.{length-entry_places}
 use Rattle.txn_object.proofs.Walk.{named_next, pointer_next, zeros_first, zeros_next, div_ceil_below, div_ceil_end}

@@ -1,6 +1,6 @@
 use Rattle.std.proofs.Common.{◌≡◌, ◌+◌, ◌*◌, ◌++◌, min, take}
 use Rattle.pm_model.specs.Plans.{stores}
-use Rattle.pm_model.specs.Objects.{segment_pointer_at, entry_places}
+use Rattle.image_layout.specs.Objects.{segment_pointer_at, entry_places}
 use Rattle.txn_object.proofs.object.push_entry_zeros.Given as goal
 
 abbrev pub invariant-loop-segment : goal.invariant-loop-segment

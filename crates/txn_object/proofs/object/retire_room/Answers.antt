@@ -1,7 +1,7 @@
 use Rattle.std.proofs.Common.{◌≡◌, ◌⊎◌, inl, inr, ⊎_elim, ◌<◌, ◌≤◌, ◌+◌, ◌*◌, ℕ, Bool, true, false, List, length, cond, refl, arith}
 use Rattle.std.proofs.lemmas.Bool.{cases_lt}
 use Rattle.pm_model.specs.Plans.{plan_of}
-use Rattle.pm_model.specs.Objects.{entry_places}
+use Rattle.image_layout.specs.Objects.{entry_places}
 use Rattle.pm_model.proofs.Lines.{part_length}
 use Rattle.txn_object.specs.Object.{clear_part, retire_parts}
 use Rattle.txn_object.proofs.Clears.{length-clear_part, retire_length_some, retire_length_none, bit_is}

@@ -1,6 +1,6 @@
 use Rattle.std.proofs.Common.{◌≡◌, ◌-◌, ◌<◌, ℕ, true, List, sym, subst, get_or, length, arith}
-use Rattle.pm_model.specs.Places.{is_pointer}
-use Rattle.pm_model.specs.Objects.{ready_count}
+use Rattle.image_layout.specs.Places.{is_pointer}
+use Rattle.image_layout.specs.Objects.{ready_count}
 use Rattle.txn_object.proofs.Rule.{named, pointer_in, within}
 use Rattle.txn_object.proofs.Walk.{named_next, pointer_next, entries_first, entries_next, entries_last, own_packed, more_packed}
 use Rattle.txn_object.proofs.reading.entries.Goals as goal

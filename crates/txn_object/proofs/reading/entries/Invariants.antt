@@ -1,5 +1,5 @@
 use Rattle.std.proofs.Common.{◌≡◌, ◌+◌, ◌*◌, ◌≤◌, map}
-use Rattle.pm_model.specs.Objects.{segment_pointer_at}
+use Rattle.image_layout.specs.Objects.{segment_pointer_at}
 use Rattle.txn_object.specs.Entries.{entry_of}
 use Rattle.txn_object.proofs.Places.{places_up_to}
 use Rattle.txn_object.proofs.Runs.{set_words}

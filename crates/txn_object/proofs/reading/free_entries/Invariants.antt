@@ -1,6 +1,6 @@
 use Rattle.std.proofs.Common.{◌≡◌, ◌+◌, ◌*◌, ◌≤◌, eqb, get_or}
 use Rattle.std.specs.Prelude.{count_by}
-use Rattle.pm_model.specs.Objects.{segment_pointer_at}
+use Rattle.image_layout.specs.Objects.{segment_pointer_at}
 use Rattle.txn_object.proofs.Places.{places_up_to}
 use Rattle.txn_object.proofs.reading.free_entries.Given as goal
 

@@ -1,7 +1,7 @@
 use Rattle.std.proofs.Common.{◌≡◌, ◌-◌, ◌+◌, ◌*◌, ◌/◌, ◌%◌, ◌<◌, ◌≤◌, ◌∙◌, ℕ, true, List, ap, sym, subst, get_or, length, arith}
-use Rattle.pm_model.specs.Places.{is_pointer}
-use Rattle.pm_model.specs.Records.{segment_entry_at}
-use Rattle.pm_model.specs.Objects.{ready_count, entry_places}
+use Rattle.image_layout.specs.Places.{is_pointer}
+use Rattle.image_layout.specs.Records.{segment_entry_at}
+use Rattle.image_layout.specs.Objects.{ready_count, entry_places}
 use Rattle.txn_object.proofs.Rule.{named}
 use Rattle.txn_object.proofs.Places.{own_place, more_place, length-entry_places}
 use Rattle.txn_object.proofs.Walk.{named_next}

@@ -1,5 +1,5 @@
 use Rattle.std.proofs.Common.{◌≡◌, ℕ, true, List, sym, subst, get_or, arith}
-use Rattle.pm_model.specs.Places.{is_pointer}
+use Rattle.image_layout.specs.Places.{is_pointer}
 use Rattle.txn_object.proofs.Rule.{named}
 use Rattle.txn_object.proofs.segments.pointer_to.Goals as goal
 

@@ -1,5 +1,5 @@
 use Rattle.std.proofs.Common.{◌≡◌, ◌<◌, length}
-use Rattle.pm_model.specs.Objects.{segment_pointer_at}
+use Rattle.image_layout.specs.Objects.{segment_pointer_at}
 use Rattle.txn_object.proofs.segments.pointer_to.Given as goal
 
 abbrev pub invariant-loop-passed : goal.invariant-loop-passed

@@ -1,6 +1,6 @@
 use Rattle.std.proofs.Common.{◌∙◌, ◌+◌, List, length, ap, arith}
 use Rattle.mv_model.specs.declared.shape.Column.{Column}
-use Rattle.pm_model.specs.Records.{table_words}
+use Rattle.image_layout.specs.Records.{table_words}
 use Rattle.catalog.proofs.Planning.{state_is, table_is, shape_some, slot_empty, few_actions, block_place, create_planned}
 use Rattle.catalog.proofs.tables.Catalog.plan_create.Goals as goal
 

@@ -1,0 +1,13 @@
+pub mod ChunkSizes
+pub mod Faults
+pub mod FreshImage
+pub mod Heap
+pub mod Members
+pub mod OwnedBlocks
+pub mod OwnersApart
+pub mod Precedes
+pub mod Ranges
+pub mod SlotSizes
+pub mod SoundApart
+pub mod TableSlots
+pub mod TextOrder

@@ -1,0 +1,16 @@
+pub mod Arrays
+pub mod Blocks
+pub mod Checks
+pub mod EntryRules
+pub mod Fixed
+pub mod Fresh
+pub mod HeapLaws
+pub mod HeapRules
+pub mod Objects
+pub mod Owners
+pub mod Places
+pub mod Pointer
+pub mod Records
+pub mod SoundRules
+pub mod Tables
+pub mod Trees

@@ -1,0 +1,43 @@
+//! The words of an image: where each stands, what it means, and the numbered rules that they keep.
+//!
+//! - `layout` has the sizes, `fixed` the places that every image has, `records` those of a table, a column, an array and a
+//!   segment of entries, `chunks` the sizes of an array's chunks, and `fresh` the words of a formatted image.
+//! - `heap_law` is about the live blocks and the free pages that the words of a heap say there are.
+//! - `specs/EntryRules` and `specs/SoundRules` have the numbered rules of an image, over what the files beside them say of
+//!   tables, arrays, objects, trees and owners. `fault_law`: an image has no first fault exactly where it keeps each rule.
+//! - It knows no device: `pm_model` stands above it and gives its items on.
+#![tactic(auto)]
+
+mod chunks;
+mod error;
+mod fixed;
+mod formatted;
+mod heap_laws;
+mod laws;
+mod layout;
+mod place;
+mod records;
+
+pub use chunks::{MAX_CHUNKS, chunk_capacity, chunk_of, chunk_pages, chunk_words};
+pub use error::NoMemory;
+pub use fixed::{
+    commit_word, descriptor, entry_word, lane_block, lane_dest, lane_op, last_commit, magic,
+    object_state, ready_segments, segment_pointer, table_count, table_slot, version,
+};
+pub use formatted::fresh;
+pub use heap_laws::heap_law;
+pub use laws::fault_law;
+pub use layout::{
+    ALLOCATING, BIG_HEAD, CLOSED, COLUMN_WORDS, ENTRY_SEGMENT_WORDS, FIRST_SLOT, FIXED_PAGES,
+    FREEING, GIVEN_BACK, HEADER_WORDS, IDLE, LANE_WORDS, LANES, LAST_BIG_HEAD, LAST_SMALL_PAGE,
+    LINE_WORDS, MAGIC, MAX_COLUMNS, MAX_COMMITS, MAX_ENTRY_SEGMENTS, MAX_SEGMENTS, MAX_WORDS,
+    NAME_WORDS, NO_COMMIT, OBJECT_ENTRIES, OBJECT_WORDS, OBJECTS, OPEN, PAGE_LINES, PAGE_WORDS,
+    RESERVED, SEGMENT_ENTRIES, SEGMENT_PAGES, SEGMENT_WORDS, SESSIONS, SMALL_PAGE,
+    TABLE_HEAD_WORDS, TABLES, VERSION,
+};
+pub use place::{PPtr, Page, Place};
+pub use records::{
+    chunk_pointer, codes_header, column, column_count, column_kind, column_name, created_header,
+    dictionary_header, ended_header, first_leaf, high, new_leaf, segment_entry, split_leaf,
+    table_name, table_words,
+};

@@ -1,5 +1,0 @@
-use Rattle.pm_model.proofs.Heap.{live_blocks_apart, free_pages_unused}
-use Rattle.pm_model.proofs.heap_laws.heap_law.Goals as goal
-
-pub returns : goal.returns
-returns c = record { apart = live_blocks_apart; free = free_pages_unused }
