@@ -1,0 +1,5 @@
+pub mod Fields
+pub mod Records
+pub mod Table
+pub mod Writing
+pub mod ReadBack
