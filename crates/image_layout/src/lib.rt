@@ -26,7 +26,7 @@ pub use fixed::{
 };
 pub use formatted::fresh;
 pub use heap_laws::heap_law;
-pub use laws::fault_law;
+pub use laws::{fault_law, limits_law};
 pub use layout::{
     ALLOCATING, BIG_HEAD, CLOSED, COLUMN_WORDS, ENTRY_SEGMENT_WORDS, FIRST_SLOT, FIXED_PAGES,
     FREEING, GIVEN_BACK, HEADER_WORDS, IDLE, LANE_WORDS, LANES, LAST_BIG_HEAD, LAST_SMALL_PAGE,

@@ -16,6 +16,3 @@ pub use decoding::decode;
 pub use encoding::encode;
 pub use error::{ImageError, NoMemory};
 pub use laws::{faultless_bytes, no_fault, one_spelling};
-
-#[cfg(test)]
-mod tests;

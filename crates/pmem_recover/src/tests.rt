@@ -339,7 +339,7 @@ fn assert_step(
     assert_eq!(rt; number, expected);
     assert_eq!(rt; plan.len() as usize, actions.len());
     for action in actions {
-        assert_eq!(rt; plan.next(), Some(*action));
+        assert!(rt; plan.next() == Some(*action));
     }
     Ok(())
 }

@@ -149,7 +149,7 @@ fn an_owned_chunk_is_used_again(rt: HostRuntime) -> Result<(), Fail> {
         Action::Fence,
     ];
     for action in actions {
-        assert_eq!(rt; plan.next(), Some(action));
+        assert!(rt; plan.next() == Some(action));
     }
     assert!(rt; plan.is_empty());
     Ok(())

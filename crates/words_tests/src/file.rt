@@ -1,7 +1,7 @@
 ghost use Rattle.std.specs.Prelude.{◌≡◌, length, IfOk};
 ghost use Rattle.pm_image.specs.Spelling.{IsWhole};
 
-use super::*;
+use pm_image::*;
 use std::alloc::Global;
 use std::test::Fail;
 
@@ -46,11 +46,40 @@ fn a_formatted_image_is_written_and_read(rt: HostRuntime) -> Result<(), Fail> {
     Ok(())
 }
 
+// The fault that is told of the first bytes of that image, so many of them.
+fn fault_of_beginning(alloc: Global, len: usize) -> Result<Option<ImageError>, Fail> {
+    let mut bytes = formatted_bytes(alloc)?;
+    bytes.truncate(len);
+    Ok(decode(alloc, bytes.as_slice()).err())
+}
+
+// That of its bytes with one of them changed.
+fn fault_of_changed(alloc: Global, place: usize, byte: u8) -> Result<Option<ImageError>, Fail> {
+    let mut bytes = formatted_bytes(alloc)?;
+    if let Some(there) = bytes.get_mut(place) {
+        *there = byte;
+    }
+    Ok(decode(alloc, bytes.as_slice()).err())
+}
+
+// That of so many bytes: those of the image, with another number of stored pages, a byte, and zeros behind it.
+fn fault_of_longer(
+    alloc: Global,
+    pages: u8,
+    byte: u8,
+    len: usize,
+) -> Result<Option<ImageError>, Fail> {
+    let mut bytes = formatted_bytes(alloc)?;
+    bytes[16] = pages;
+    bytes.push(byte)?;
+    bytes.resize(len, 0)?;
+    Ok(decode(alloc, bytes.as_slice()).err())
+}
+
 #[test]
 fn the_first_fault_is_told(rt: HostRuntime) -> Result<(), Fail> {
-    let mut bytes = formatted_bytes(rt.alloc())?;
     for len in [0, 7, 8, 11, 12, 15, 16, 19, 20, 4119, 4120, 8219] {
-        let fault = decode(rt.alloc(), &bytes.as_slice()[..len]).err();
+        let fault = fault_of_beginning(rt.alloc(), len)?;
         assert_eq!(rt; fault, Some(ImageError::Truncated), "of {len} bytes");
     }
     for (place, byte, fault) in [
@@ -65,27 +94,15 @@ fn the_first_fault_is_told(rt: HostRuntime) -> Result<(), Fail> {
         (4120, 0, ImageError::BadPage { at: 1 }),
         (4120, 64, ImageError::BadPage { at: 1 }),
     ] {
-        let mut changed = formatted_bytes(rt.alloc())?;
-        if let Some(there) = changed.get_mut(place) {
-            *there = byte;
-        }
-        let told = decode(rt.alloc(), changed.as_slice()).err();
+        let told = fault_of_changed(rt.alloc(), place, byte)?;
         assert_eq!(rt; told, Some(fault), "{byte} at {place}");
     }
-    bytes.push(0)?;
-    let trailing = decode(rt.alloc(), bytes.as_slice()).err();
-    assert_eq!(rt; trailing, Some(ImageError::Trailing { at: 8220 }));
-    Ok(())
-}
-
-#[test]
-fn a_stored_page_of_zeros_is_bad(rt: HostRuntime) -> Result<(), Fail> {
-    let mut bytes = formatted_bytes(rt.alloc())?;
-    bytes[16] = 3;
-    bytes.extend_from_slice(&[2, 0, 0, 0])?;
-    bytes.resize(12320, 0)?;
-    let fault = decode(rt.alloc(), bytes.as_slice()).err();
-    assert_eq!(rt; fault, Some(ImageError::BadPage { at: 2 }));
+    for (pages, byte, len, fault) in [
+        (2, 0, 8221, ImageError::Trailing { at: 8220 }),
+        (3, 2, 12320, ImageError::BadPage { at: 2 }),
+    ] {
+        assert_eq!(rt; fault_of_longer(rt.alloc(), pages, byte, len)?, Some(fault));
+    }
     Ok(())
 }
 
