@@ -3,6 +3,7 @@ pub mod Atomic
 pub mod BigBlocks
 pub mod BigPlans
 pub mod Changes
+pub mod ChangesHold
 pub mod Choices
 pub mod Choosing
 pub mod Dests
@@ -20,6 +21,7 @@ pub mod PagePlans
 pub mod Pages
 pub mod Planned
 pub mod Reindex
+pub mod Rereading
 pub mod Rooms
 pub mod RulesKept
 pub mod SameHeaps

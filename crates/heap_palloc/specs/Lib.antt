@@ -1,4 +1,5 @@
 pub mod Calls
+pub mod Changes
 pub mod Choice
 pub mod Index
 pub mod Lane

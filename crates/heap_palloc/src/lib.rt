@@ -15,10 +15,7 @@ pub use block::Block;
 pub use error::AllocError;
 pub use free::plan_free;
 pub use heap::Heap;
-pub use laws::{
-    allocation_law, change_law, freeing_law, fresh_heap_law, lane_law, new_slot_law, owners_law,
-    pages_law, slot_freeing_law, slot_law,
-};
+pub use laws::{allocation_law, freeing_law, fresh_heap_law, lane_law, owners_law};
 pub use pm_model::NoMemory;
 pub use reading::reopen;
 

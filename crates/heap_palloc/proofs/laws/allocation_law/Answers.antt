@@ -1,6 +1,7 @@
-use Rattle.heap_palloc.proofs.Choices.{choice_plan, choice_allocates}
-use Rattle.heap_palloc.proofs.RulesKept.{choice_rules}
+use Rattle.pm_model.proofs.ChangeLaw.{survives-from-words}
+use Rattle.heap_palloc.specs.Changes.{allocation}
+use Rattle.heap_palloc.proofs.ChangesHold.{allocation_holds}
 use Rattle.heap_palloc.proofs.laws.allocation_law.Goals as goal
 
 pub returns : goal.returns
-returns c = record { plan = choice_plan; allocates = choice_allocates; rules = choice_rules }
+returns c = λ choice. survives-from-words (allocation choice) (allocation_holds choice)

@@ -1,6 +1,7 @@
-use Rattle.heap_palloc.proofs.Choices.{freed_plan, freed_frees}
-use Rattle.heap_palloc.proofs.RulesKept.{freed_rules}
+use Rattle.pm_model.proofs.ChangeLaw.{survives-from-words}
+use Rattle.heap_palloc.specs.Changes.{freeing}
+use Rattle.heap_palloc.proofs.ChangesHold.{freeing_holds}
 use Rattle.heap_palloc.proofs.laws.freeing_law.Goals as goal
 
 pub returns : goal.returns
-returns c = record { plan = freed_plan; frees = freed_frees; rules = freed_rules }
+returns c = λ freed. survives-from-words (freeing freed) (freeing_holds freed)

@@ -1,0 +1,135 @@
+-- An allocation and a freeing hold what their changes say.
+use Rattle.std.proofs.Common.{◌≡◌, ◌≢◌, ℕ, ◌*◌, List}
+use Rattle.image_layout.specs.Pointer.{pointer_word}
+use Rattle.image_layout.specs.Blocks.{Block, slot_words, live_blocks}
+use Rattle.pm_model.specs.Changes.{HoldsOnWords}
+use Rattle.pm_model.specs.Plans.{Part, EachCut, finished}
+use Rattle.heap_small.specs.Bitmap.{with_bit}
+use Rattle.heap_palloc.specs.Lane.{mended_lane}
+use Rattle.heap_palloc.specs.Parts.{Allocation}
+use Rattle.heap_palloc.specs.Law.{Shows, Allocates, Frees, slot_allocation, taking, taken, pages_allocation}
+use Rattle.heap_palloc.specs.Calls.{KeepsHeapRules, OwnsBlock}
+use Rattle.heap_palloc.specs.Choice.{Choice, in_page, on_new_page, in_run, choice_parts, choice_block, MayMake, Freed, of_slot, of_pages, freed_parts, freed_block, MayRelease}
+use Rattle.heap_palloc.specs.Changes.{allocation, freeing, choice_owner, IsBeside, IsBesideFreed, allocated_words, released_words, ShowsAllocation, EndsAllocation, ShowsRelease, EndsRelease}
+use Rattle.heap_palloc.proofs.Stages.{mended-idle}
+use Rattle.heap_palloc.proofs.Changes.{change_settles}
+use Rattle.heap_palloc.proofs.Choices.{choice_plan, choice_allocates, freed_plan, freed_frees}
+use Rattle.heap_palloc.proofs.RulesKept.{choice_rules, freed_rules}
+use Rattle.heap_palloc.proofs.Owners.{allocation_gives, allocation_keeps, freeing_keeps}
+use Rattle.heap_palloc.proofs.Rereading.{choice_stable, freed_stable}
+
+-- ── an allocation ──
+
+choice_cuts : (choice : Choice) (base : List ℕ) → MayMake base choice → EachCut (ShowsAllocation choice base) (choice_parts base choice) base
+choice_cuts (in_page s) base may = (choice_allocates base (in_page s) may).changes.cuts
+choice_cuts (on_new_page s) base may = (choice_allocates base (on_new_page s) may).changes.cuts
+choice_cuts (in_run r) base may = (choice_allocates base (in_run r) may).changes.cuts
+
+-- by its allocation, which each choice has
+module _ (a : Allocation) (page pages size : ℕ) (parts : List Part) (base : List ℕ) (allocates : Allocates a page pages size parts base) where
+  ended_mended : mended_lane a.lane (finished parts base) ≡ finished parts base
+  ended_mended = mended-idle a.lane (finished parts base) allocates.changes.idle
+
+  ended_made : Shows a.lane a.owner page pages base (live_blocks (finished parts base)) (pointer_word a.block) (finished parts base)
+  ended_made = change_settles a.lane a.owner page pages base (live_blocks base) 0 (live_blocks (finished parts base)) (pointer_word a.block) parts base allocates.changes
+
+choice_ends : (choice : Choice) (base : List ℕ) → MayMake base choice → EndsAllocation choice base (allocated_words base choice)
+choice_ends (in_page s) base may =
+    let allocates = choice_allocates base (in_page s) may in
+    let parts = choice_parts base (in_page s) in
+    record {
+      made = ended_made (taking base s) s.page 1 (slot_words s.class) parts base allocates;
+      gains = allocates.gains;
+      idle = allocates.changes.idle;
+      mended = ended_mended (taking base s) s.page 1 (slot_words s.class) parts base allocates;
+      rules = λ rules. choice_rules base (in_page s) rules may;
+    }
+choice_ends (on_new_page s) base may =
+    let allocates = choice_allocates base (on_new_page s) may in
+    let parts = choice_parts base (on_new_page s) in
+    record {
+      made = ended_made (slot_allocation s (with_bit 0 s.slot)) s.page 1 (slot_words s.class) parts base allocates;
+      gains = allocates.gains;
+      idle = allocates.changes.idle;
+      mended = ended_mended (slot_allocation s (with_bit 0 s.slot)) s.page 1 (slot_words s.class) parts base allocates;
+      rules = λ rules. choice_rules base (on_new_page s) rules may;
+    }
+choice_ends (in_run r) base may =
+    let allocates = choice_allocates base (in_run r) may in
+    let parts = choice_parts base (in_run r) in
+    record {
+      made = ended_made (pages_allocation r) r.first r.pages (512 * r.pages) parts base allocates;
+      gains = allocates.gains;
+      idle = allocates.changes.idle;
+      mended = ended_mended (pages_allocation r) r.first r.pages (512 * r.pages) parts base allocates;
+      rules = λ rules. choice_rules base (in_run r) rules may;
+    }
+
+pub allocation_holds : (choice : Choice) → HoldsOnWords (allocation choice)
+allocation_holds choice = record {
+  plan = λ base may. choice_plan base choice may;
+  cuts = λ base may. choice_cuts choice base may;
+  end = λ base may. choice_ends choice base may;
+  stable = λ old new same may. choice_stable choice old new same may;
+}
+
+-- ── a freeing ──
+
+freed_cuts : (freed : Freed) (base : List ℕ) → MayRelease base freed → EachCut (ShowsRelease freed base) (freed_parts base freed) base
+freed_cuts (of_slot s) base may = (freed_frees base (of_slot s) may).changes.cuts
+freed_cuts (of_pages r) base may = (freed_frees base (of_pages r) may).changes.cuts
+
+module _ (a : Allocation) (page pages size : ℕ) (parts : List Part) (base : List ℕ) (frees : Frees a page pages size parts base) where
+  ended_free : mended_lane a.lane (finished parts base) ≡ finished parts base
+  ended_free = mended-idle a.lane (finished parts base) frees.changes.idle
+
+  ended_let_go : Shows a.lane a.owner page pages base (live_blocks (finished parts base)) 0 (finished parts base)
+  ended_let_go = change_settles a.lane a.owner page pages base (live_blocks base) (pointer_word a.block) (live_blocks (finished parts base)) 0 parts base frees.changes
+
+freed_ends : (freed : Freed) (base : List ℕ) → MayRelease base freed → EndsRelease freed base (released_words base freed)
+freed_ends (of_slot s) base may =
+    let frees = freed_frees base (of_slot s) may in
+    let parts = freed_parts base (of_slot s) in
+    record {
+      let_go = ended_let_go (taken base s) s.page 1 (slot_words s.class) parts base frees;
+      loses = frees.loses;
+      idle = frees.changes.idle;
+      mended = ended_free (taken base s) s.page 1 (slot_words s.class) parts base frees;
+      rules = λ rules. freed_rules base (of_slot s) rules may;
+    }
+freed_ends (of_pages r) base may =
+    let frees = freed_frees base (of_pages r) may in
+    let parts = freed_parts base (of_pages r) in
+    record {
+      let_go = ended_let_go (pages_allocation r) r.first r.pages (512 * r.pages) parts base frees;
+      loses = frees.loses;
+      idle = frees.changes.idle;
+      mended = ended_free (pages_allocation r) r.first r.pages (512 * r.pages) parts base frees;
+      rules = λ rules. freed_rules base (of_pages r) rules may;
+    }
+
+pub freeing_holds : (freed : Freed) → HoldsOnWords (freeing freed)
+freeing_holds freed = record {
+  plan = λ base may. freed_plan base freed may;
+  cuts = λ base may. freed_cuts freed base may;
+  end = λ base may. freed_ends freed base may;
+  stable = λ old new same may. freed_stable freed old new same may;
+}
+
+-- ── which words own a block ──
+
+pub choice_gives : (base : List ℕ) (choice : Choice) → MayMake base choice → OwnsBlock (allocated_words base choice) (choice_owner choice) (choice_block choice)
+choice_gives base (in_page s) may = allocation_gives base (in_page s) may
+choice_gives base (on_new_page s) may = allocation_gives base (on_new_page s) may
+choice_gives base (in_run r) may = allocation_gives base (in_run r) may
+
+pub choice_keeps : (base : List ℕ) (choice : Choice) (dest : ℕ) (block : Block) → KeepsHeapRules base → MayMake base choice → IsBeside choice dest
+    → OwnsBlock base dest block → OwnsBlock (allocated_words base choice) dest block
+choice_keeps base (in_page s) dest block rules may out owns = allocation_keeps base (in_page s) dest block rules may out owns
+choice_keeps base (on_new_page s) dest block rules may out owns = allocation_keeps base (on_new_page s) dest block rules may out owns
+choice_keeps base (in_run r) dest block rules may out owns = allocation_keeps base (in_run r) dest block rules may out owns
+
+pub freed_keeps : (base : List ℕ) (freed : Freed) (dest : ℕ) (block : Block) → KeepsHeapRules base → MayRelease base freed → IsBesideFreed freed dest
+    → block.first ≢ (freed_block freed).first → OwnsBlock base dest block → OwnsBlock (released_words base freed) dest block
+freed_keeps base (of_slot s) dest block rules may out apart owns = freeing_keeps base (of_slot s) dest block rules may out apart owns
+freed_keeps base (of_pages r) dest block rules may out apart owns = freeing_keeps base (of_pages r) dest block rules may out apart owns

@@ -1,0 +1,146 @@
+-- An allocation and a freeing as changes: what they read, what their cuts show, and their ends.
+use Rattle.std.specs.Prelude.{◌≡◌, ◌⊎◌, ℕ, ◌+◌, ◌<◌, List, length, slice_index}
+use Rattle.pm_model.specs.Changes.{Change}
+use Rattle.pm_model.specs.Plans.{finished}
+use Rattle.image_layout.specs.Fixed.{lane_op_at}
+use Rattle.image_layout.specs.Places.{page_of}
+use Rattle.image_layout.specs.Pointer.{pointer_word}
+use Rattle.image_layout.specs.Blocks.{Block, descriptor_of, is_inside, is_small_page, live_blocks}
+use Rattle.heap_palloc.specs.Lane.{mended_lane}
+use Rattle.heap_palloc.specs.Shown.{GainsOne}
+use Rattle.heap_palloc.specs.Law.{IsElsewhere, Pages, SameRead, Shows}
+use Rattle.heap_palloc.specs.Choice.{Choice, in_page, on_new_page, in_run, choice_parts, choice_page, choice_pages, choice_block, MayMake, Freed, of_slot, of_pages, freed_parts, freed_page, freed_pages, freed_block, MayRelease}
+use Rattle.heap_palloc.specs.Calls.{KeepsHeapRules}
+
+-- ── what they read ──
+
+-- What the plan of a big block reads is the same: the lane's op, the owner's word, the descriptors of the block's pages,
+-- whether the first of them stands inside a big block, and whether the owner's page is a small one.
+pub record SameRunRead (old new : List ℕ) (r : Pages) : Type 0 where
+  pub size : length new ≡ length old
+  pub op : slice_index new (lane_op_at r.lane) ≡ slice_index old (lane_op_at r.lane)
+  pub owner : slice_index new r.owner ≡ slice_index old r.owner
+  pub descriptors : (k : ℕ) → k < r.pages → descriptor_of new (r.first + k) ≡ descriptor_of old (r.first + k)
+  pub inside : is_inside new r.first ≡ is_inside old r.first
+  pub owner_small : is_small_page new (page_of r.owner) ≡ is_small_page old (page_of r.owner)
+
+abbrev pub SameChoiceRead : Choice → List ℕ → List ℕ → Type 0
+SameChoiceRead (in_page s) old new = SameRead old new s
+SameChoiceRead (on_new_page s) old new = SameRead old new s
+SameChoiceRead (in_run r) old new = SameRunRead old new r
+
+abbrev pub SameFreedRead : Freed → List ℕ → List ℕ → Type 0
+SameFreedRead (of_slot s) old new = SameRead old new s
+SameFreedRead (of_pages r) old new = SameRunRead old new r
+
+-- ── an allocation ──
+
+-- its lane, and its owner's word
+abbrev pub choice_lane : Choice → ℕ
+choice_lane (in_page s) = s.lane
+choice_lane (on_new_page s) = s.lane
+choice_lane (in_run r) = r.lane
+
+abbrev pub choice_owner : Choice → ℕ
+choice_owner (in_page s) = s.owner
+choice_owner (on_new_page s) = s.owner
+choice_owner (in_run r) = r.owner
+
+-- the words after it
+abbrev pub allocated_words : List ℕ → Choice → List ℕ
+allocated_words base choice = finished (choice_parts base choice) base
+
+-- a word that it doesn't write
+abbrev pub IsBeside : Choice → ℕ → Type 0
+IsBeside choice w = IsElsewhere (choice_lane choice) (choice_owner choice) (choice_page choice) (choice_pages choice) w
+
+-- words show these live blocks, and this as the owner's word; each word beside the allocation is that of the base
+abbrev pub ShowsMaking : List ℕ → Choice → List Block → ℕ → List ℕ → Type 0
+ShowsMaking base choice blocks word words =
+    Shows (choice_lane choice) (choice_owner choice) (choice_page choice) (choice_pages choice) base blocks word words
+
+-- the live blocks before it, and the owner's word is null
+abbrev pub IsUnmade : List ℕ → Choice → List ℕ → Type 0
+IsUnmade base choice words = ShowsMaking base choice (live_blocks base) 0 words
+
+-- the live blocks after it, and the owner's word names the new one
+abbrev pub IsMade : List ℕ → Choice → List ℕ → Type 0
+IsMade base choice words = ShowsMaking base choice (live_blocks (allocated_words base choice)) (pointer_word (choice_block choice).first) words
+
+-- what a cut of an allocation shows once its lane is mended
+abbrev pub ShowsAllocation : Choice → List ℕ → List ℕ → Type 0
+ShowsAllocation choice base image =
+    IsUnmade base choice (mended_lane (choice_lane choice) image) ⊎ IsMade base choice (mended_lane (choice_lane choice) image)
+
+-- What the words after an allocation show: one live block more, whose pointer the owner's word holds. The lane is idle, so
+-- that mending it leaves them, and the heap's rules hold as before.
+pub record EndsAllocation (choice : Choice) (base words : List ℕ) : Type 0 where
+  pub made : IsMade base choice words
+  pub gains : GainsOne (live_blocks base) (choice_block choice) (live_blocks words)
+  pub idle : slice_index words (lane_op_at (choice_lane choice)) ≡ 0
+  pub mended : mended_lane (choice_lane choice) words ≡ words
+  pub rules : KeepsHeapRules base → KeepsHeapRules words
+
+abbrev pub allocation : Choice → Change
+allocation choice = record {
+  asks = λ base. MayMake base choice;
+  parts = λ base. choice_parts base choice;
+  shows = ShowsAllocation choice;
+  ends = EndsAllocation choice;
+  reads = SameChoiceRead choice;
+}
+
+-- ── a freeing ──
+
+-- its lane, and its owner's word
+abbrev pub freed_lane : Freed → ℕ
+freed_lane (of_slot s) = s.lane
+freed_lane (of_pages r) = r.lane
+
+abbrev pub freed_owner : Freed → ℕ
+freed_owner (of_slot s) = s.owner
+freed_owner (of_pages r) = r.owner
+
+-- the words after it
+abbrev pub released_words : List ℕ → Freed → List ℕ
+released_words base freed = finished (freed_parts base freed) base
+
+-- a word that it doesn't write
+abbrev pub IsBesideFreed : Freed → ℕ → Type 0
+IsBesideFreed freed w = IsElsewhere (freed_lane freed) (freed_owner freed) (freed_page freed) (freed_pages freed) w
+
+-- words show these live blocks, and this as the owner's word; each word beside the freeing is that of the base
+abbrev pub ShowsFreeing : List ℕ → Freed → List Block → ℕ → List ℕ → Type 0
+ShowsFreeing base freed blocks word words =
+    Shows (freed_lane freed) (freed_owner freed) (freed_page freed) (freed_pages freed) base blocks word words
+
+-- the live blocks before it, and the owner's word names the block
+abbrev pub IsHeld : List ℕ → Freed → List ℕ → Type 0
+IsHeld base freed words = ShowsFreeing base freed (live_blocks base) (pointer_word (freed_block freed).first) words
+
+-- the live blocks after it, and the owner's word is null
+abbrev pub IsLetGo : List ℕ → Freed → List ℕ → Type 0
+IsLetGo base freed words = ShowsFreeing base freed (live_blocks (released_words base freed)) 0 words
+
+-- what a cut of a freeing shows once its lane is mended
+abbrev pub ShowsRelease : Freed → List ℕ → List ℕ → Type 0
+ShowsRelease freed base image =
+    IsHeld base freed (mended_lane (freed_lane freed) image) ⊎ IsLetGo base freed (mended_lane (freed_lane freed) image)
+
+-- What the words after a freeing show: one live block less, and the owner's word null. The lane is idle, so that mending it
+-- leaves them, and the heap's rules hold as before.
+pub record EndsRelease (freed : Freed) (base words : List ℕ) : Type 0 where
+  pub let_go : IsLetGo base freed words
+  pub loses : GainsOne (live_blocks words) (freed_block freed) (live_blocks base)
+  pub idle : slice_index words (lane_op_at (freed_lane freed)) ≡ 0
+  pub mended : mended_lane (freed_lane freed) words ≡ words
+  pub rules : KeepsHeapRules base → KeepsHeapRules words
+
+abbrev pub freeing : Freed → Change
+freeing freed = record {
+  asks = λ base. MayRelease base freed;
+  parts = λ base. freed_parts base freed;
+  shows = ShowsRelease freed;
+  ends = EndsRelease freed;
+  reads = SameFreedRead freed;
+}
