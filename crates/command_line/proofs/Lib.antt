@@ -1,0 +1,6 @@
+pub mod Building
+pub mod Rules
+pub mod Turns
+pub mod Walking
+pub mod Values
+pub mod Parsing
