@@ -1,4 +1,5 @@
 pub mod Again
+pub mod ChangesHold
 pub mod Growing
 pub mod Headers
 pub mod Lengths

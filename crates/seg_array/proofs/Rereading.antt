@@ -1,15 +1,16 @@
 -- What a growth reads: where it is the same, the growth may begin and has the same parts.
-use Rattle.std.proofs.Common.{◌≡◌, ⊎_elim, inl, inr, ◌⊎◌, ℕ, zero, suc, ◌+◌, ◌-◌, ◌*◌, ◌/◌, ◌<◌, ◌≤◌, min, true, false, cond, eqb, List, [], ◌∷◌, ◌++◌, length, map, get_or, refl, sym, ◌∙◌, ap, subst, arith}
+use Rattle.std.proofs.Common.{◌≡◌, ⊎_elim, inl, inr, ◌⊎◌, ℕ, ◌+◌, ◌-◌, ◌*◌, ◌/◌, ◌<◌, ◌≤◌, min, true, false, cond, eqb, List, [], ◌++◌, length, get_or, sym, ◌∙◌, ap, subst, arith}
 use Rattle.std.specs.Prelude.{Contains}
-use Rattle.std.specs.List.{range_with_len, filter}
 use Rattle.std.proofs.lemmas.Nat.{pow_pos}
-use Rattle.image_layout.specs.Fixed.{descriptor_at, lane_op_at}
+use Rattle.image_layout.specs.Fixed.{lane_op_at}
 use Rattle.image_layout.specs.Places.{page_of, page_at, page_count}
-use Rattle.pm_model.specs.Plans.{Part, store, unless_empty}
+use Rattle.pm_model.specs.Plans.{Part}
 use Rattle.image_layout.specs.Blocks.{Block, slot_words, says_big, descriptor_of, class_of, is_inside, is_small_page, live_blocks}
 use Rattle.image_layout.proofs.Heap.{slot_fits, page_of_block, small_class, big_pages, big_live, IsSmallOf, IsBigOf}
-use Rattle.heap_palloc.specs.Parts.{allocation_parts, forget_given_back, big_allocation_parts}
-use Rattle.heap_palloc.specs.Law.{IsOwnerPlace, IsHeapPage, Pages, pages_allocation, MayTakeRun}
+use Rattle.heap_palloc.specs.Parts.{big_allocation_parts}
+use Rattle.heap_palloc.specs.Law.{Pages, pages_allocation, MayTakeRun}
+use Rattle.heap_palloc.specs.Changes.{SameRunRead}
+use Rattle.heap_palloc.proofs.Rereading.{owner_same, heap_page_same, take_run-read, big_parts-same}
 use Rattle.image_layout.specs.Arrays.{chunk_pages, chunk_count}
 use Rattle.seg_array.specs.Growth.{Growth, next_pointer_at, next_chunk, chunk_block, allocating_parts, publishing_parts, growth_parts, OwnsChunk, MayGrow, SameGrowthRead}
 
@@ -22,38 +23,12 @@ record SameChunkRead (old new : List ℕ) (r : Pages) : Type 0 where
   pub descriptors : (k : ℕ) → k < r.pages → descriptor_of new (r.first + k) ≡ descriptor_of old (r.first + k)
   pub inside : is_inside new r.first ≡ is_inside old r.first
 
-owner_same : (old new : List ℕ) (w : ℕ) → length new ≡ length old → is_small_page new (page_of w) ≡ is_small_page old (page_of w) → IsOwnerPlace old w → IsOwnerPlace new w
-owner_same old new w size small place = record {
-  in_image = omega (arith, size, place.in_image);
-  outside_lanes = place.outside_lanes;
-  no_descriptor = place.no_descriptor;
-  no_bitmap = λ hit. place.no_bitmap (sym small ∙ hit);
-}
-
-heap_page_same : (old new : List ℕ) (page : ℕ) → length new ≡ length old → IsHeapPage old page → IsHeapPage new page
-heap_page_same old new page size is = record {
-  in_image = subst (λ (n : ℕ). page < n / 512) (sym size) is.in_image;
-  behind_header = is.behind_header;
-  behind_fixed = is.behind_fixed;
-}
-
 module _ (old new : List ℕ) (r : Pages) (same : SameChunkRead old new r) where
   in_image_same : r.first + r.pages ≤ page_count old → r.first + r.pages ≤ page_count new
   in_image_same le = subst (λ (n : ℕ). r.first + r.pages ≤ n / 512) (sym same.size) le
 
-  taking_same : is_small_page new (page_of r.owner) ≡ is_small_page old (page_of r.owner) → MayTakeRun old r → MayTakeRun new r
-  taking_same small run = record {
-    idle = record { lane_is = run.idle.lane_is; op = same.op ∙ run.idle.op; owner_is = owner_same old new r.owner same.size small run.idle.owner_is };
-    unowned = same.pointer ∙ run.unowned;
-    run = record {
-      page_is = heap_page_same old new r.first same.size run.run.page_is;
-      in_image = in_image_same run.run.in_image;
-      in_segment = run.run.in_segment;
-      some = run.run.some;
-      not_inside = same.inside ∙ run.run.not_inside;
-    };
-    are_free = λ k lt. let e = same.descriptors k lt in let low = run.are_free k lt in omega (arith, e, low);
-  }
+  run_same : is_small_page new (page_of r.owner) ≡ is_small_page old (page_of r.owner) → SameRunRead old new r
+  run_same small = record { size = same.size; op = same.op; owner = same.pointer; descriptors = same.descriptors; inside = same.inside; owner_small = small }
 
   -- a live block of pages is told from its head alone
   head : 0 < r.pages → Contains (live_blocks old) (chunk_block r) → (is_inside old r.first ≡ false) × (says_big (descriptor_of old r.first) ≡ true) × (descriptor_of old r.first ≡ 16 + r.pages)
@@ -98,27 +73,10 @@ module _ (old new : List ℕ) (r : Pages) (same : SameChunkRead old new r) where
 
   -- ── its allocation ──
 
-  filter-same : (a n : ℕ) → ((page : ℕ) → a ≤ page → page < a + n → get_or new (descriptor_at page) 0 ≡ get_or old (descriptor_at page) 0)
-      → filter (λ page. eqb (get_or new (descriptor_at page) 0) 1) (range_with_len a n) ≡ filter (λ page. eqb (get_or old (descriptor_at page) 0) 1) (range_with_len a n)
-  filter-same a zero each = refl
-  filter-same a (suc n) each =
-      ap (λ (d : ℕ). cond (eqb d 1) (a ∷ filter (λ page. eqb (get_or new (descriptor_at page) 0) 1) (range_with_len (a + 1) n)) (filter (λ page. eqb (get_or new (descriptor_at page) 0) 1) (range_with_len (a + 1) n))) (each a (omega arith) (omega arith))
-      ∙ ap (λ (rest : List ℕ). cond (eqb (get_or old (descriptor_at a) 0) 1) (a ∷ rest) rest) (filter-same (a + 1) n (λ page le lt. each page (omega (arith, le)) (omega (arith, lt))))
-
-  descriptor_in : (page : ℕ) → r.first ≤ page → page < r.first + r.pages → get_or new (descriptor_at page) 0 ≡ get_or old (descriptor_at page) 0
-  descriptor_in page le lt =
-      let is : r.first + (page - r.first) ≡ page = omega (arith, le) in
-      subst (λ (p : ℕ). descriptor_of new p ≡ descriptor_of old p) is (same.descriptors (page - r.first) (omega (arith, le, lt)))
-
-  forget-same : forget_given_back new (range_with_len (page_of (page_at r.first)) r.pages) ≡ forget_given_back old (range_with_len (page_of (page_at r.first)) r.pages)
-  forget-same =
-      let here : page_of (page_at r.first) ≡ r.first = omega arith in
-      ap (map (λ page. store (descriptor_at page) 0)) (filter-same (page_of (page_at r.first)) r.pages (λ page le lt. descriptor_in page (omega (arith, le, here)) (omega (arith, lt, here))))
-
   allocating-same : allocating_parts new r ≡ allocating_parts old r
   allocating-same =
       ap (λ (p : ℕ). cond (eqb p 0) (big_allocation_parts new r.pages (pages_allocation r)) []) same.pointer
-      ∙ ap (λ (part : Part). cond (eqb (get_or old r.owner 0) 0) (unless_empty part ++ allocation_parts (pages_allocation r)) []) forget-same
+      ∙ ap (λ (parts : List Part). cond (eqb (get_or old r.owner 0) 0) parts []) (big_parts-same old new r same.descriptors)
 
 -- ── the growth ──
 
@@ -134,7 +92,7 @@ module _ (old new : List ℕ) (g : Growth) (same : SameGrowthRead old new g) whe
     lane_is = may.lane_is;
     idle = same.op ∙ may.idle;
     chunk = subst (λ (c : ℕ). MayTakeRun new (record { lane = g.lane; owner = g.header + 1 + c; first = g.first; pages = chunk_pages c }) ⊎ OwnsChunk new (record { lane = g.lane; owner = g.header + 1 + c; first = g.first; pages = chunk_pages c })) (sym same.count)
-        (⊎_elim (λ run. inl (taking_same old new (next_chunk old g) chunk_same owner_small run)) (λ owns. inr (owning_same old new (next_chunk old g) chunk_same some_pages owns)) may.chunk);
+        (⊎_elim (λ run. inl (take_run-read old new (next_chunk old g) (run_same old new (next_chunk old g) chunk_same owner_small) run)) (λ owns. inr (owning_same old new (next_chunk old g) chunk_same some_pages owns)) may.chunk);
   }
     where
       some_pages : 0 < chunk_pages (chunk_count old g.header)

@@ -1,14 +1,11 @@
 -- The growth of an array as a whole: the chunk allocated or owned already, and then published.
 use Rattle.std.proofs.Common.{◌≡◌, ◌≢◌, ◌⊎◌, inl, inr, ⊎_elim, ℕ, ◌+◌, ◌*◌, ◌/◌, ◌%◌, ◌<◌, eqb, List, [], ◌++◌, length, get_or, refl, sym, ◌∙◌, ap, subst, arith}
 use Rattle.std.proofs.lemmas.Bool.{cond-true, cond-false, eq-eqb, ne_eqb}
-use Rattle.pm_model.specs.declared.action.Action.{Action}
 use Rattle.image_layout.specs.Pointer.{pointer_word}
 use Rattle.image_layout.specs.Places.{page_of, page_at}
-use Rattle.pm_model.specs.Device.{Device}
-use Rattle.pm_model.specs.Plans.{Part, EachCut, IsPlan, finished, Play, IsPlaying, IsCrashImageWithin, IsTakenBack}
+use Rattle.pm_model.specs.Plans.{Part, EachCut, IsPlan, finished}
 use Rattle.image_layout.specs.Blocks.{Block, live_blocks}
 use Rattle.pm_model.proofs.Cuts.{store_part, finished-append, plan-append, each_cut-append, each_cut-map}
-use Rattle.pm_model.proofs.PlanLaw.{plan_survives_parts, plan_ended_parts}
 use Rattle.heap_palloc.specs.Lane.{mended_lane}
 use Rattle.heap_palloc.specs.Parts.{big_allocation_parts}
 use Rattle.heap_palloc.specs.Shown.{GainsOne}
@@ -169,17 +166,3 @@ module _ (base : List ℕ) (g : Growth) (may : MayGrow base g) where
 
   pub growth_owned : get_or base (next_pointer_at base g.header) 0 ≢ 0 → live_blocks (finished (growth_parts base g) base) ≡ live_blocks base
   growth_owned some = ⊎_elim (λ run. absurd (some run.unowned)) (λ owns. blocks_kept base g may base (owned_at owns)) may.chunk
-
-  -- ── played ──
-
-  module _ (play : Play) (n : ℕ) (d : Device) (image : List ℕ) where
-    pub growth_survives : (left : List Action) → IsPlaying play n left d → IsCrashImageWithin play.own d image → IsTakenBack play image base → play.parts ≡ growth_parts base g
-        → (IsUngrown base g (mended_lane g.lane image)) ⊎ (IsGrown base g (mended_lane g.lane image))
-    growth_survives left playing left_by back is =
-        plan_survives_parts (λ i. (IsUngrown base g (mended_lane g.lane i)) ⊎ (IsGrown base g (mended_lane g.lane i))) (growth_parts base g) play n left d image base playing left_by back is growth_cuts
-
-    pub growth_stays : IsPlaying play n [] d → IsCrashImageWithin play.own d image → IsTakenBack play image base → play.parts ≡ growth_parts base g → IsGrown base g (mended_lane g.lane image)
-    growth_stays playing left_by back is =
-        let ended = growth_ended in
-        let same : mended_lane g.lane image ≡ finished (growth_parts base g) base = ap (mended_lane g.lane) (plan_ended_parts (growth_parts base g) play n d image base playing left_by back is) ∙ ended.1 in
-        subst (IsGrown base g) (sym same) ended.0

@@ -18,9 +18,16 @@ pub record Growth : Type 0 where
   pub header : ℕ
   pub first : ℕ
 
+abbrev pub growth_by : ℕ → ℕ → ℕ → Growth
+growth_by lane header first = record { lane = lane; header = header; first = first }
+
 -- the place of the pointer behind the published ones
 abbrev pub next_pointer_at : List ℕ → ℕ → ℕ
 next_pointer_at words header = chunk_pointer_at header (chunk_count words header)
+
+-- that pointer is null: the array doesn't own its next chunk
+abbrev pub HasNoNext : List ℕ → ℕ → Type 0
+HasNoNext words header = slice_index words (next_pointer_at words header) ≡ 0
 
 -- the pages of the chunk, the word for its pointer, and the chunk as a block
 abbrev pub next_chunk : List ℕ → Growth → Pages
@@ -35,7 +42,8 @@ punches first pages = map (λ page. Punch (record { 0 = page })) (range_with_len
 
 -- the chunk is allocated, unless its pointer is there
 abbrev pub allocating_parts : List ℕ → Pages → List Part
-allocating_parts words chunk = (if slice_index words chunk.owner == 0 then big_allocation_parts words chunk.pages (pages_allocation chunk) else [])
+allocating_parts words chunk = (if slice_index words chunk.owner == 0 then big_allocation_parts words chunk.pages
+    (pages_allocation chunk) else [])
 
 -- its pages are made 0, and then it is published
 abbrev pub publishing_parts : ℕ → ℕ → ℕ → ℕ → List Part
@@ -43,7 +51,8 @@ publishing_parts header count first pages = punches first pages ∷ one_store he
 
 abbrev pub growth_parts : List ℕ → Growth → List Part
 growth_parts words g =
-    allocating_parts words (next_chunk words g) ++ publishing_parts g.header (chunk_count words g.header) g.first (chunk_pages (chunk_count words g.header))
+    allocating_parts words (next_chunk words g)
+        ++ publishing_parts g.header (chunk_count words g.header) g.first (chunk_pages (chunk_count words g.header))
 
 -- the array owns the chunk
 pub record OwnsChunk (words : List ℕ) (chunk : Pages) : Type 0 where
@@ -58,7 +67,8 @@ pub record OwnsChunk (words : List ℕ) (chunk : Pages) : Type 0 where
 pub record MayGrow (words : List ℕ) (g : Growth) : Type 0 where
   pub count : chunk_count words g.header < 12
   pub header_is : (k : ℕ) → k < 16 → IsOwnerPlace words (g.header + k)
-  pub apart : (g.header + 16 ≤ page_at g.first) ⊎ (page_at (g.first + chunk_pages (chunk_count words g.header)) ≤ g.header)
+  pub apart : (g.header + 16 ≤ page_at g.first)
+      ⊎ (page_at (g.first + chunk_pages (chunk_count words g.header)) ≤ g.header)
   pub lane_is : g.lane < 16
   pub idle : slice_index words (lane_op_at g.lane) ≡ 0
   pub chunk : MayTakeRun words (next_chunk words g) ⊎ OwnsChunk words (next_chunk words g)
@@ -70,6 +80,8 @@ pub record SameGrowthRead (old new : List ℕ) (g : Growth) : Type 0 where
   pub count : chunk_count new g.header ≡ chunk_count old g.header
   pub pointer : slice_index new (next_pointer_at old g.header) ≡ slice_index old (next_pointer_at old g.header)
   pub op : slice_index new (lane_op_at g.lane) ≡ slice_index old (lane_op_at g.lane)
-  pub descriptors : (k : ℕ) → k < chunk_pages (chunk_count old g.header) → descriptor_of new (g.first + k) ≡ descriptor_of old (g.first + k)
+  pub descriptors : (k : ℕ) → k < chunk_pages (chunk_count old g.header)
+      → descriptor_of new (g.first + k) ≡ descriptor_of old (g.first + k)
   pub inside : is_inside new g.first ≡ is_inside old g.first
-  pub header_small : (k : ℕ) → k < 16 → is_small_page new (page_of (g.header + k)) ≡ is_small_page old (page_of (g.header + k))
+  pub header_small : (k : ℕ) → k < 16
+      → is_small_page new (page_of (g.header + k)) ≡ is_small_page old (page_of (g.header + k))

@@ -1,4 +1,5 @@
 pub mod Calls
+pub mod Changes
 pub mod Growth
 pub mod Shown
 pub mod TestImage

@@ -1,5 +1,6 @@
 -- What the words of an image show of an array that grows, once the lane is mended.
 use Rattle.std.specs.Prelude.{◌≡◌, ◌≢◌, ◌⊎◌, ℕ, ◌+◌, ◌<◌, ◌≤◌, List, length, slice_index}
+use Rattle.image_layout.specs.declared.chunks.TheConstants.{MAX_CHUNKS}
 use Rattle.image_layout.specs.Pointer.{pointer_word}
 use Rattle.image_layout.specs.Places.{page_at}
 use Rattle.pm_model.specs.Plans.{finished}
@@ -12,11 +13,19 @@ use Rattle.seg_array.specs.Growth.{Growth, next_pointer_at, growth_parts}
 abbrev pub IsOutsidePages : ℕ → ℕ → ℕ → Type 0
 IsOutsidePages first pages w = (w < page_at first) ⊎ (page_at (first + pages) ≤ w)
 
+-- The count and the pointers in the header of an array are the same, the one behind the published chunks among them.
+pub record HasSameHeader (old new : List ℕ) (header : ℕ) : Type 0 where
+  pub size : length new ≡ length old
+  pub each : (k : ℕ) → k ≤ MAX_CHUNKS → slice_index new (header + k) ≡ slice_index old (header + k)
+
 -- no word of the array moves, and each word that the growth doesn't write stays
 pub record KeepsArray (base : List ℕ) (g : Growth) (words : List ℕ) : Type 0 where
   pub size : length words ≡ length base
-  pub places : (index : ℕ) → index < capacity base g.header → place_of words g.header index ≡ place_of base g.header index
-  pub others : (w : ℕ) → IsElsewhere g.lane (next_pointer_at base g.header) g.first (chunk_pages (chunk_count base g.header)) w → w ≢ g.header
+  pub places : (index : ℕ) → index < capacity base g.header
+      → place_of words g.header index ≡ place_of base g.header index
+  pub others : (w : ℕ)
+      → IsElsewhere g.lane (next_pointer_at base g.header) g.first (chunk_pages (chunk_count base g.header)) w
+      → w ≢ g.header
       → IsOutsidePages g.first (chunk_pages (chunk_count base g.header)) w → slice_index words w ≡ slice_index base w
 
 -- the live blocks are those after the growth, and the chunk's pointer stands behind the published ones
@@ -39,5 +48,6 @@ pub record IsUngrown (base : List ℕ) (g : Growth) (words : List ℕ) : Type 0 
 pub record IsGrown (base : List ℕ) (g : Growth) (words : List ℕ) : Type 0 where
   pub keeps : KeepsArray base g words
   pub capacity_is : capacity words g.header ≡ capacity_of (chunk_count base g.header + 1)
-  pub new_words : (index : ℕ) → capacity base g.header ≤ index → index < capacity words g.header → array_word words g.header index ≡ 0
+  pub new_words : (index : ℕ) → capacity base g.header ≤ index → index < capacity words g.header
+      → array_word words g.header index ≡ 0
   pub chunk : HasChunk base g words

@@ -1,8 +1,5 @@
-use Rattle.seg_array.proofs.Headers.{array_same, places_same}
+use Rattle.seg_array.proofs.ChangesHold.{header_rule, header_places}
 use Rattle.seg_array.proofs.laws.array_law.Goals as goal
 
 pub returns : goal.returns
-returns c = record {
-  rule = array_same;
-  places = places_same;
-}
+returns c = record { rule = header_rule; places = header_places }
