@@ -1,0 +1,11 @@
+//! Common ground of tests and measurements, so that each stands once: images that are built word by word, plans that are
+//! played whole, and a heap on a formatted image.
+#![tactic(auto)]
+
+mod heap;
+mod images;
+mod playing;
+
+pub use heap::formatted_heap;
+pub use images::{TABLE, changed_image, formatted_memory, one_table, set_words};
+pub use playing::play_whole;
