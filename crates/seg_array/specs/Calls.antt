@@ -30,8 +30,11 @@ pub record IsHeader (words : List ℕ) (header : ℕ) : Type 0 where
 
 -- the chunk behind the published ones is a live block of its size, and the header isn't in it
 pub record OwnsNext (words : List ℕ) (header : ℕ) : Type 0 where
-  pub live : Contains (live_blocks words) (record { first = place_in (slice_index words
-      (next_pointer_at words header)); words = chunk_words (chunk_count words header) })
+  pub live : Contains (live_blocks words) (record {
+    first = place_in (slice_index words
+        (next_pointer_at words header));
+    words = chunk_words (chunk_count words header);
+  })
   pub apart : (header + 16 ≤ place_in (slice_index words (next_pointer_at words header)))
       ⊎ (place_in (slice_index words (next_pointer_at words header)) + chunk_words (chunk_count words header) ≤ header)
 
@@ -64,7 +67,7 @@ pub record IsGrowthPlanned (words : List ℕ) (old new : HeapIndex) (lane header
   pub plan_is : plan ≡ plan_of (growth_parts words (growth_by lane header first))
   pub chosen : HasNoNext words header
       → (left : List Run) × TakesBestFit old.free.runs (chunk_pages (chunk_count words header))
-          (record { first = first; pages = chunk_pages (chunk_count words header) }) left
+      (record { first = first; pages = chunk_pages (chunk_count words header) }) left
   pub kept : ¬ HasNoNext words header → new ≡ old
   pub index_of : IsIndexOf (finished (growth_parts words (growth_by lane header first)) words) new
 
@@ -81,7 +84,7 @@ pub record IsChunkPlanned (words : List ℕ) (old new : HeapIndex) (lane header 
   pub plan_is : after ≡ before ++ plan_of (allocating_parts words (next_chunk words (growth_by lane header first)))
   pub chosen : HasNoNext words header
       → (left : List Run) × TakesBestFit old.free.runs (chunk_pages (chunk_count words header))
-          (record { first = first; pages = chunk_pages (chunk_count words header) }) left
+      (record { first = first; pages = chunk_pages (chunk_count words header) }) left
   pub kept : ¬ HasNoNext words header → new ≡ old
   pub index_of : IsIndexOf (finished (allocating_parts words (next_chunk words
       (growth_by lane header first))) words) new

@@ -52,7 +52,7 @@ publishing_parts header count first pages = punches first pages ∷ one_store he
 abbrev pub growth_parts : List ℕ → Growth → List Part
 growth_parts words g =
     allocating_parts words (next_chunk words g)
-        ++ publishing_parts g.header (chunk_count words g.header) g.first (chunk_pages (chunk_count words g.header))
+    ++ publishing_parts g.header (chunk_count words g.header) g.first (chunk_pages (chunk_count words g.header))
 
 -- the array owns the chunk
 pub record OwnsChunk (words : List ℕ) (chunk : Pages) : Type 0 where

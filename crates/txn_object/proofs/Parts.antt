@@ -140,7 +140,7 @@ module _ (base : List ℕ) (object entries : ℕ) (word : Bool) (has : HasObject
       (λ one. let lt = one.1 in entry_not_fixed base object has one.0 (commit_word_at object) (omega (arith, lt, le)) (let number = has.number in omega (arith, number)) (inl (omega arith)) (sym one.2))
       (λ two. both_ways word is two.0) cleared))
 
-  retiring_same : (image : List ℕ) → IsRetiring base object entries word image → SameButEntries base image object
+  pub retiring_same : (image : List ℕ) → IsRetiring base object entries word image → SameButEntries base image object
   retiring_same image retiring = record {
     size = retiring.size;
     state = let none = retiring.state in omega (arith, none);

@@ -2,18 +2,15 @@
 use Rattle.std.proofs.Common.{◌≡◌, ◌≢◌, ◌⊎◌, inl, inr, ⊎_elim, eqb, ℕ, suc, ◌+◌, ◌%◌, ◌<◌, ◌≤◌, List, [], ◌∷◌, ◌++◌, length, get_or, refl, sym, ◌∙◌, ap, subst, arith}
 use Rattle.std.specs.Prelude.{Contains}
 use Rattle.std.proofs.lemmas.Bool.{cases_lt, or_left, or_right, eq-eqb}
-use Rattle.pm_model.specs.declared.action.Action.{Action}
 use Rattle.image_layout.specs.Fixed.{ready_at, lane_op_at}
 use Rattle.image_layout.specs.Pointer.{pointer_word}
 use Rattle.image_layout.specs.Places.{is_pointer_to}
-use Rattle.pm_model.specs.Device.{Device}
-use Rattle.pm_model.specs.Plans.{Part, EachCut, IsPlan, finished, Play, IsPlaying, IsCrashImageWithin, IsTakenBack}
+use Rattle.pm_model.specs.Plans.{Part, EachCut, IsPlan, finished}
 use Rattle.image_layout.specs.Blocks.{Block, live_blocks}
 use Rattle.heap_palloc.specs.Index.{HeapIndex, IsIndexOf}
 use Rattle.txn_object.specs.Calls.{MayPlanExtension}
 use Rattle.image_layout.specs.Objects.{ready_count, segment_pointer_at, ready_segments, segment_of, pointer_after}
 use Rattle.pm_model.proofs.Cuts.{store_part, finished-append, plan-append, each_cut-append, each_cut-map}
-use Rattle.pm_model.proofs.PlanLaw.{plan_survives_parts, plan_ended_parts}
 use Rattle.heap_palloc.specs.Lane.{mended_lane}
 use Rattle.heap_palloc.specs.Shown.{GainsOne}
 use Rattle.heap_palloc.specs.Law.{Shows, ChangesShown}
@@ -253,17 +250,3 @@ by_source base object (allocated choice) may =
 
 pub extension_shown : (base : List ℕ) (e : Extension) → MayExtend base e → IsShown base e
 extension_shown base e may = by_source base e.object e.source may
-
--- ── played ──
-
-module _ (base : List ℕ) (e : Extension) (may : MayExtend base e) (play : Play) (n : ℕ) (d : Device) (image : List ℕ) where
-  pub extension_survives : (left : List Action) → IsPlaying play n left d → IsCrashImageWithin play.own d image → IsTakenBack play image base → play.parts ≡ extension_parts base e
-      → (IsUnextended base e (mended_lane e.object image)) ⊎ (IsExtended base e (mended_lane e.object image))
-  extension_survives left playing left_by back is =
-      plan_survives_parts (λ i. (IsUnextended base e (mended_lane e.object i)) ⊎ (IsExtended base e (mended_lane e.object i))) (extension_parts base e) play n left d image base playing left_by back is (extension_shown base e may).cuts
-
-  pub extension_stays : IsPlaying play n [] d → IsCrashImageWithin play.own d image → IsTakenBack play image base → play.parts ≡ extension_parts base e → IsExtended base e (mended_lane e.object image)
-  extension_stays playing left_by back is =
-      let shown = extension_shown base e may in
-      let same : mended_lane e.object image ≡ finished (extension_parts base e) base = ap (mended_lane e.object) (plan_ended_parts (extension_parts base e) play n d image base playing left_by back is) ∙ shown.mended in
-      subst (IsExtended base e) (sym same) shown.ends

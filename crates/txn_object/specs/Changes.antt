@@ -1,0 +1,198 @@
+-- The plans of a transaction object as changes: a begin, an entry, an extension and a retire.
+use Rattle.std.specs.Prelude.{◌≡◌, ◌≢◌, ◌⊎◌, ℕ, ◌+◌, ◌*◌, ◌%◌, ◌^◌, ◌<◌, ◌≤◌, Bool, IsTrue, List, [], ◌∷◌, ◌++◌, Contains, length, slice_index}
+use Rattle.pm_model.specs.Changes.{Change}
+use Rattle.pm_model.specs.Plans.{Part, finished}
+use Rattle.image_layout.specs.declared.layout.TheConstants.{CLOSED, FIXED_PAGES, OBJECTS, OPEN, PAGE_WORDS, SEGMENT_WORDS}
+use Rattle.image_layout.specs.Fixed.{last_at, lane_op_at, state_at, commit_word_at}
+use Rattle.image_layout.specs.Blocks.{live_blocks}
+use Rattle.image_layout.specs.Checks.{Keeps}
+use Rattle.image_layout.specs.EntryRules.{object_rule}
+use Rattle.image_layout.specs.Objects.{ready_count, segment_of, pointer_after, entry_places}
+use Rattle.heap_palloc.specs.Calls.{KeepsHeapRules}
+use Rattle.heap_palloc.specs.Changes.{SameChoiceRead}
+use Rattle.heap_palloc.specs.Index.{HeapIndex, IsIndexOf}
+use Rattle.heap_palloc.specs.Lane.{mended_lane}
+use Rattle.heap_palloc.specs.Shown.{GainsOne}
+use Rattle.txn_object.specs.declared.entry.Entry.{Entry}
+use Rattle.txn_object.specs.Calls.{MayPlanExtension}
+use Rattle.txn_object.specs.Entries.{entry_word}
+use Rattle.txn_object.specs.Extension.{Source, owned, allocated, Extension, new_segment, source_parts, extension_parts, segment_block, HasSegments, MayExtend}
+use Rattle.txn_object.specs.Object.{entries_in, nth_place, begin_parts, entry_part, retire_parts, NoEntryFollowsZero}
+use Rattle.txn_object.specs.Shown.{Transaction, Shows, HasObject, MayEnter, IsUnextended, IsExtended, IsRetiring, IsRetired}
+use Rattle.txn_object.specs.Spared.{KeepsObject}
+
+-- What the plans of an object read is the same: its words. No number was taken back.
+pub record SameObjectRead (object : ℕ) (old new : List ℕ) : Type 0 where
+  pub keeps : KeepsObject old object new
+  pub last : slice_index old last_at ≤ slice_index new last_at
+
+-- the ready segments go on to be blocks of the heap, and the next extension may be planned as before
+pub record GoesOn (object : ℕ) (base words : List ℕ) : Type 0 where
+  pub segments : HasSegments base object → HasSegments words object
+  pub extends : (index : HeapIndex) → MayPlanExtension base index object → MayPlanExtension words index object
+
+-- the image shows the transaction as it was, or as it is then
+abbrev pub IsOneOf : ℕ → Transaction → Transaction → List ℕ → Type 0
+IsOneOf object before after image = Shows image object before ⊎ Shows image object after
+
+-- there is such an object, in an image of whole segments
+pub record IsObjectPlace (words : List ℕ) (object : ℕ) : Type 0 where
+  pub number : object < OBJECTS
+  pub size : FIXED_PAGES * PAGE_WORDS ≤ length words
+  pub whole : length words % SEGMENT_WORDS ≡ 0
+
+-- ── a begin ──
+
+-- the transaction, once it is begun
+abbrev pub begun : Transaction → Transaction
+begun transaction = record transaction { state = OPEN }
+
+-- The object is open, and each other word is that of the base. So its entries stay, and its rule goes on to hold.
+pub record IsBegun (object : ℕ) (base words : List ℕ) : Type 0 where
+  pub size : length words ≡ length base
+  pub state : slice_index words (state_at object) ≡ OPEN
+  pub others : (w : ℕ) → w ≢ state_at object → slice_index words w ≡ slice_index base w
+  pub shows : (transaction : Transaction) → Shows base object transaction → Shows words object (begun transaction)
+  pub is_object : HasObject words object
+  pub goes_on : GoesOn object base words
+
+abbrev pub beginning : ℕ → Change
+beginning object = record {
+  asks = λ base. HasObject base object;
+  parts = λ base. begin_parts object;
+  shows = λ base image. (image ≡ base) ⊎ IsBegun object base image;
+  ends = IsBegun object;
+  reads = SameObjectRead object;
+}
+
+-- ── an entry ──
+
+-- the entry's table and row are numbers that its word has room for
+pub record IsSpelt (entry : Entry) : Type 0 where
+  pub table : entry.table < 2 ^ 24
+  pub row : entry.row < 2 ^ 32
+
+-- the transaction, with one entry more
+abbrev pub with_entry : Transaction → Entry → Transaction
+with_entry transaction entry = record transaction { entries = transaction.entries ++ entry ∷ [] }
+
+abbrev pub entry_parts : List ℕ → ℕ → ℕ → Entry → List Part
+entry_parts words object nth entry = entry_part words object nth entry ∷ []
+
+-- The entry stands at its place, and each other word is that of the base. So the transaction has it behind the others, its
+-- rule goes on to hold, no entry follows a word that is 0, and the next one may be entered.
+pub record IsEntered (object nth : ℕ) (entry : Entry) (base words : List ℕ) : Type 0 where
+  pub size : length words ≡ length base
+  pub word : slice_index words (nth_place base object nth) ≡ entry_word entry
+  pub others : (w : ℕ) → w ≢ nth_place base object nth → slice_index words w ≡ slice_index base w
+  pub places : entry_places words object ≡ entry_places base object
+  pub shows : (transaction : Transaction) → Shows base object transaction → Shows words object (with_entry transaction entry)
+  pub is_object : HasObject words object
+  pub packed : NoEntryFollowsZero words object
+  pub next : (other : Entry) → nth + 1 < length (entry_places base object) → IsSpelt other → MayEnter words object (nth + 1) other
+  pub goes_on : GoesOn object base words
+
+abbrev pub entering : ℕ → ℕ → Entry → Change
+entering object nth entry = record {
+  asks = λ base. MayEnter base object nth entry;
+  parts = λ base. entry_parts base object nth entry;
+  shows = λ base image. (image ≡ base) ⊎ IsEntered object nth entry base image;
+  ends = IsEntered object nth entry;
+  reads = SameObjectRead object;
+}
+
+-- ── an extension ──
+
+-- the words after it
+abbrev pub extended_words : List ℕ → Extension → List ℕ
+extended_words base e = finished (extension_parts base e) base
+
+-- the words once the object owns the new segment
+abbrev pub source_words : List ℕ → Extension → List ℕ
+source_words base e = finished (source_parts base e.source) base
+
+-- the object doesn't own a segment behind its ready ones
+abbrev pub HasNoNext : List ℕ → ℕ → Type 0
+HasNoNext words object = slice_index words (pointer_after words object) ≡ 0
+
+-- what a cut of an extension shows once its lane is mended
+abbrev pub ShowsExtension : Extension → List ℕ → List ℕ → Type 0
+ShowsExtension e base image = IsUnextended base e (mended_lane e.object image) ⊎ IsExtended base e (mended_lane e.object image)
+
+-- What the words after an extension show: one ready segment more, whose words are 0. It allocates the segment, unless the
+-- object owned it. Mending the lane leaves them, the ready segments are blocks of the heap which share no word, and the next
+-- extension may be planned.
+pub record EndsExtension (e : Extension) (base words : List ℕ) : Type 0 where
+  pub extended : IsExtended base e words
+  pub allocates : HasNoNext base e.object → GainsOne (live_blocks base) (segment_block (new_segment e)) (live_blocks words)
+  pub owned : ¬ HasNoNext base e.object → live_blocks words ≡ live_blocks base
+  pub mended : mended_lane e.object words ≡ words
+  pub segments : HasSegments words e.object
+  pub again : (index : HeapIndex) → IsIndexOf words index → MayPlanExtension words index e.object
+
+-- what the source of a segment reads is the same: that it is a block of the heap, or what its allocation reads
+abbrev pub SameSourceRead : Source → List ℕ → List ℕ → Type 0
+SameSourceRead (owned segment) old new = Contains (live_blocks new) (segment_block segment)
+SameSourceRead (allocated choice) old new = SameChoiceRead choice old new
+
+-- What an extension reads is the same: the object's words and the lane's op. The rules of the heap and of the object go on
+-- to hold, and the ready segments to be blocks of the heap.
+pub record SameExtensionRead (e : Extension) (old new : List ℕ) : Type 0 where
+  pub object : KeepsObject old e.object new
+  pub op : slice_index new (lane_op_at e.object) ≡ slice_index old (lane_op_at e.object)
+  pub rules : KeepsHeapRules new
+  pub rule : Keeps new (object_rule e.object)
+  pub live : (segment : ℕ) → segment < ready_count old e.object
+      → Contains (live_blocks new) (segment_block (segment_of old e.object segment))
+  pub source : SameSourceRead e.source old new
+
+abbrev pub extending : Extension → Change
+extending e = record {
+  asks = λ base. MayExtend base e;
+  parts = λ base. extension_parts base e;
+  shows = ShowsExtension e;
+  ends = EndsExtension e;
+  reads = SameExtensionRead e;
+}
+
+-- ── a retire ──
+
+-- a retire that clears so many entries, and the commit word where it is set
+pub record Retirement : Type 0 where
+  pub object : ℕ
+  pub entries : ℕ
+  pub word : Bool
+
+-- the object has so many entry words
+pub record MayRetire (words : List ℕ) (r : Retirement) : Type 0 where
+  pub is_object : HasObject words r.object
+  pub most : r.entries ≤ length (entry_places words r.object)
+
+-- the words are the old ones or the object is idle, whatever its entries are; its rule holds
+pub record ShowsRetire (r : Retirement) (base image : List ℕ) : Type 0 where
+  pub words : (image ≡ base) ⊎ IsRetiring base r.object r.entries r.word image
+  pub is_object : HasObject image r.object
+  pub goes_on : GoesOn r.object base image
+
+-- no fewer entries are cleared than the transaction has
+pub record ClearsAll (old : List ℕ) (r : Retirement) : Type 0 where
+  pub may : MayRetire old r
+  pub all : length (entries_in old r.object) ≤ r.entries
+  pub packed : NoEntryFollowsZero old r.object
+
+-- the commit word is cleared, or was 0
+abbrev pub ClearsCommit : List ℕ → Retirement → Type 0
+ClearsCommit old r = IsTrue r.word ⊎ (slice_index old (commit_word_at r.object) ≡ 0)
+
+-- a transaction that is over
+abbrev pub no_transaction : Transaction
+no_transaction = record { state = CLOSED; commit_word = 0; entries = [] }
+
+abbrev pub retiring : Retirement → Change
+retiring r = record {
+  asks = λ base. MayRetire base r;
+  parts = λ base. retire_parts base r.object r.entries r.word;
+  shows = ShowsRetire r;
+  ends = λ base words. IsRetired base r.object r.entries r.word words;
+  reads = SameObjectRead r.object;
+}
