@@ -1,4 +1,5 @@
 pub mod Blocks
+pub mod ChangesHold
 pub mod Creating
 pub mod Filled
 pub mod Filling

@@ -5,15 +5,14 @@ use Rattle.std.specs.List.{flat_map, range_with_len}
 use Rattle.std.proofs.lemmas.Bool.{cases_eq, cases_lt, cond-true, cond-false, lt-ltb, le-ltb, eq-eqb, ne_eqb, or_from}
 use Rattle.std.proofs.lemmas.List.{get_or-set_same, get_or-set_other, length-set}
 use Rattle.pm_model.specs.declared.action.Action.{Action}
-use Rattle.pm_model.specs.Device.{Device, IsBetween}
+use Rattle.pm_model.specs.Device.{IsBetween}
 use Rattle.image_layout.specs.Fixed.{descriptor_at, lane_op_at, table_count_at, table_slot_at}
 use Rattle.image_layout.specs.Pointer.{pointer_word}
 use Rattle.image_layout.specs.Places.{page_of, page_at}
-use Rattle.pm_model.specs.Plans.{Part, EachCut, IsPlan, finished, footprint, words_after, store, unless_empty, Play, IsPlaying, IsCrashImageWithin, IsTakenBack}
+use Rattle.pm_model.specs.Plans.{Part, EachCut, IsPlan, finished, footprint, words_after, store, unless_empty}
 use Rattle.image_layout.specs.Blocks.{Block, descriptor_of, live_blocks}
 use Rattle.image_layout.specs.Tables.{table_count}
 use Rattle.pm_model.proofs.Cuts.{between-kept, between-end, cut-one_store, each_cut-append, each_cut-end, each_cut-map, each_cut-unless_empty, finished-unless_empty}
-use Rattle.pm_model.proofs.PlanLaw.{plan_survives_parts, plan_ended_parts}
 use Rattle.heap_palloc.specs.Choice.{Choice, in_page, on_new_page, in_run, choice_allocation, choice_block, choice_page, choice_pages, choice_parts, IsThrough, MayMake, Freed, of_slot, of_pages, freed_allocation, freed_block, freed_page, freed_pages, freed_parts, freed_named}
 use Rattle.heap_palloc.specs.Lane.{mended_lane}
 use Rattle.heap_palloc.specs.Law.{Allocates, ChangesShown, Frees, IsElsewhere, IsIdle, Shows, Slot, slot_allocation, taking, Pages, pages_allocation, MayTakeNewSlot, MayTakeRun}
@@ -554,17 +553,3 @@ module _ (base : List ℕ) (c : Creation) (on : MayCreateOn base c) where
   creation_ended =
       let low = each_cut-end (λ image. get_or image (lane_op_at c.lane) 0 ≤ 1) (creation_parts base c) base low_cuts in
       (all_ended.0, low_op (finished (creation_parts base c) base) low ∙ all_ended.1)
-
-  -- ── played ──
-
-  module _ (play : Play) (n : ℕ) (d : Device) (image : List ℕ) where
-    pub creation_survives : (left : List Action) → IsPlaying play n left d → IsCrashImageWithin play.own d image → IsTakenBack play image base → play.parts ≡ creation_parts base c
-        → IsUncreated base c (mended c.lane image) ⊎ IsCreated base c (mended c.lane image)
-    creation_survives left playing left_by back is =
-        plan_survives_parts (λ i. IsUncreated base c (mended c.lane i) ⊎ IsCreated base c (mended c.lane i)) (creation_parts base c) play n left d image base playing left_by back is creation_cuts
-
-    pub creation_stays : IsPlaying play n [] d → IsCrashImageWithin play.own d image → IsTakenBack play image base → play.parts ≡ creation_parts base c → IsCreated base c (mended c.lane image)
-    creation_stays playing left_by back is =
-        let ended = creation_ended in
-        let same : mended c.lane image ≡ finished (creation_parts base c) base = ap (mended c.lane) (plan_ended_parts (creation_parts base c) play n d image base playing left_by back is) ∙ ended.1 in
-        subst (IsCreated base c) (sym same) ended.0

@@ -1,4 +1,5 @@
 pub mod Calls
+pub mod Changes
 pub mod Creation
 pub mod Entries
 pub mod Shown
