@@ -10,6 +10,7 @@ pub mod Kept
 pub mod LaneChecks
 pub mod LiveChecks
 pub mod NameChecks
+pub mod NumberedFaults
 pub mod ObjectChecks
 pub mod OwnedChecks
 pub mod OwnerChecks

@@ -2,6 +2,7 @@
 //!
 //! - `NAME_fault` gives the place of the first check of `NAME_rule` that fails, and none where the image keeps the rule.
 //!   A rule is tried after those that it relies on.
+//! - `entry_fault` tries the rules of every image that a power cut can leave, in the order of their numbers.
 //! - The rules of owner words are tried of tables, arrays and transaction objects: `built_owners_law` says that these are
 //!   all, where the tree of each column is empty.
 //! - `pointed_place`, `pointed_words` and `is_block_pointer` say what a word points to.
@@ -15,6 +16,7 @@ mod heap_rules;
 mod lane_rules;
 mod layout;
 mod name_rules;
+mod numbered_rules;
 mod object_rules;
 mod owner_laws;
 mod owner_rules;
@@ -31,6 +33,7 @@ pub use first_words::{last_fault, magic_fault, version_fault};
 pub use heap_rules::{bitmap_fault, descriptor_fault, is_small_page, reserved_fault};
 pub use lane_rules::lane_fault;
 pub use name_rules::name_fault;
+pub use numbered_rules::{RuleFault, entry_fault};
 pub use object_rules::objects_fault;
 pub use owner_laws::built_owners_law;
 pub use owner_rules::{owned_fault, owner_fault, single_owner_fault};
@@ -40,6 +43,3 @@ pub use stamp_rules::stamp_fault;
 pub use table_rules::{
     columns_of, published_tables, table_block, table_count_fault, table_slot_fault,
 };
-
-#[cfg(test)]
-mod tests;

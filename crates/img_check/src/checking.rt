@@ -1,62 +1,127 @@
 // The rules of an image at rest, one after the other.
-ghost use Rattle.std.specs.Prelude.{◌≡◌, ◌⊎◌, ℕ, ◌%◌, ◌≤◌, None, Some, IfOk, IfErr, length};
-ghost use Rattle.image_layout.specs.Checks.{first_fault};
+ghost use Rattle.std.specs.Prelude.{◌≡◌, ◌⊎◌, ℕ, ◌%◌, ◌≤◌, None, Some, IfOk, IfErr, OnErr, length};
+ghost use Rattle.image_layout.specs.Checks.{Keeps, first_fault};
+ghost use Rattle.image_layout.specs.EntryRules.{table_count_rule, table_slot_rule, arrays_rule, objects_rule};
+ghost use Rattle.image_rules.specs.NumberedRules.{told};
 ghost use Rattle.img_check.specs.declared.error.CheckError.TheVariants.{Unsound, NoMemory as OutOfMemory};
-ghost use Rattle.img_check.specs.StandingRules.{sound_rules};
+ghost use Rattle.img_check.specs.StandingRules.{closing_rules, content_rules, owner_rules, rules_without_memory, sound_rules};
 
 use crate::error::CheckError;
 use image_rules::{
-    arrays_fault, bitmap_fault, closed_fault, descriptor_fault, distinct_name_fault, entries_fault,
-    given_back_fault, idle_fault, lane_fault, last_fault, magic_fault, name_fault, next_slot_fault,
-    objects_fault, owned_fault, owner_fault, reserved_fault, single_owner_fault, stamp_fault,
-    table_count_fault, table_slot_fault, version_fault,
+    RuleFault, closed_fault, distinct_name_fault, entry_fault, given_back_fault, idle_fault,
+    next_slot_fault, owned_fault, owner_fault, single_owner_fault, stamp_fault,
 };
+use pm_model::NoMemory;
 use std::alloc::Global;
 
 /// Tries the rules of an image at rest, in the order of their numbers: those of every image that a power cut can leave
 /// (1 to 10, 12, 14 and 15), and then that nothing is half done (16 to 18), that owner words and live blocks go together one
 /// to one (19 to 21), that stamps are those of commits and stand below their table's bound (27), that pages which were given
 /// back are 0 (29) and that names differ (30). An error names the first rule that the words break, and the place where they
-/// do. It makes a few passes over the words, and n log n steps for n owner words, for which it takes memory.
+/// do. It makes a few passes over the words, and n log n steps for n owner words, for which it takes memory: where that is
+/// refused, the words keep the rules before them, 1 to 18.
 pub fn check(alloc: Global, words: &[u64]) -> Result<(), CheckError>
     requires segments { length words.now % 32768 ≡ 0 }
     requires one_or_more { 32768 ≤ length words.now }
     requires most { length words.now ≤ 4194304 }
     ensures sound { IfOk result (λ _. first_fault sound_rules words.now ≡ None) }
-    ensures fault { IfErr result (λ error. (error ≡ OutOfMemory)
+    ensures fault { IfErr result (λ error. ((error ≡ OutOfMemory) × (first_fault rules_without_memory words.now ≡ None))
         ⊎ ((rule place : ℕ) × (first_fault sound_rules words.now ≡ Some (record { rule = rule; place = place })) × (error ≡ Unsound rule place))) }
 {
-    refuse(1, magic_fault(words))?;
-    refuse(2, version_fault(words))?;
-    refuse(3, last_fault(words))?;
-    refuse(4, table_count_fault(words))?;
-    refuse(5, reserved_fault(words))?;
-    refuse(6, descriptor_fault(words))?;
-    refuse(7, bitmap_fault(words))?;
-    refuse(8, lane_fault(words))?;
-    refuse(9, table_slot_fault(words))?;
-    refuse(10, arrays_fault(words))?;
-    refuse(12, name_fault(words))?;
-    refuse(14, objects_fault(words))?;
-    refuse(15, entries_fault(words))?;
-    refuse(16, idle_fault(words))?;
-    refuse(17, next_slot_fault(words))?;
-    refuse(18, closed_fault(words))?;
-    refuse(19, owner_fault(alloc, words)?)?;
-    refuse(20, single_owner_fault(alloc, words)?)?;
-    refuse(21, owned_fault(alloc, words)?)?;
-    refuse(27, stamp_fault(words))?;
-    refuse(29, given_back_fault(words))?;
-    refuse(30, distinct_name_fault(words))
+    match sound_fault(alloc, words) {
+        Ok(Some(found)) => Err(CheckError::Unsound {
+            rule: found.rule,
+            place: found.place,
+        }),
+        Ok(None) => Ok(()),
+        Err(_) => Err(CheckError::NoMemory),
+    }
 }
 
-// Refuses an image that breaks a rule at this place.
-fn refuse(rule: u8, fault: Option<u32>) -> Result<(), CheckError>
-    ensures kept { IfOk result (λ _. fault ≡ None) }
-    ensures broken { IfErr result (λ error. (place : ℕ) × (fault ≡ Some place) × (error ≡ Unsound rule place)) }
+// The first of these rules that the words break.
+fn sound_fault(alloc: Global, words: &[u64]) -> Result<Option<RuleFault>, NoMemory>
+    requires segments { length words.now % 32768 ≡ 0 }
+    requires one_or_more { 32768 ≤ length words.now }
+    requires most { length words.now ≤ 4194304 }
+    ensures found { IfOk result (λ found. told found ≡ first_fault sound_rules words.now) }
+    ensures tried { OnErr result (first_fault rules_without_memory words.now ≡ None) }
 {
-    match fault {
-        Some(place) => Err(CheckError::Unsound { rule, place }),
-        None => Ok(()),
+    let standing = standing_fault(words);
+    if standing.is_some() {
+        return Ok(standing);
     }
+    let owners = owners_fault(alloc, words)?;
+    if owners.is_some() {
+        return Ok(owners);
+    }
+    Ok(content_fault(words))
+}
+
+// Of the rules 1 to 18.
+fn standing_fault(words: &[u64]) -> Option<RuleFault>
+    requires segments { length words.now % 32768 ≡ 0 }
+    requires one_or_more { 32768 ≤ length words.now }
+    requires most { length words.now ≤ 4194304 }
+    ensures { told result ≡ first_fault rules_without_memory words.now }
+{
+    let entry = entry_fault(words);
+    if entry.is_some() {
+        return entry;
+    }
+    closing_fault(words)
+}
+
+// Of the rules 16 to 18.
+fn closing_fault(words: &[u64]) -> Option<RuleFault>
+    requires segments { length words.now % 32768 ≡ 0 }
+    requires one_or_more { 32768 ≤ length words.now }
+    requires most { length words.now ≤ 4194304 }
+    requires tables { Keeps words.now table_count_rule }
+    requires objects { Keeps words.now objects_rule }
+    ensures { told result ≡ first_fault closing_rules words.now }
+{
+    let idle = RuleFault::of(16, idle_fault(words));
+    let slot = RuleFault::of(17, next_slot_fault(words));
+    let closed = RuleFault::of(18, closed_fault(words));
+    idle.or(slot).or(closed)
+}
+
+// Of the rules 19 to 21.
+fn owners_fault(alloc: Global, words: &[u64]) -> Result<Option<RuleFault>, NoMemory>
+    requires segments { length words.now % 32768 ≡ 0 }
+    requires one_or_more { 32768 ≤ length words.now }
+    requires most { length words.now ≤ 4194304 }
+    requires tables { Keeps words.now table_count_rule }
+    requires slots { Keeps words.now table_slot_rule }
+    requires objects { Keeps words.now objects_rule }
+    ensures { IfOk result (λ found. told found ≡ first_fault owner_rules words.now) }
+{
+    let named = owner_fault(alloc, words)?;
+    let first = RuleFault::of(19, named);
+    if first.is_some() {
+        return Ok(first);
+    }
+    let single = single_owner_fault(alloc, words)?;
+    let second = RuleFault::of(20, single);
+    if second.is_some() {
+        return Ok(second);
+    }
+    let owned = owned_fault(alloc, words)?;
+    Ok(RuleFault::of(21, owned))
+}
+
+// Of the rules 27, 29 and 30.
+fn content_fault(words: &[u64]) -> Option<RuleFault>
+    requires segments { length words.now % 32768 ≡ 0 }
+    requires one_or_more { 32768 ≤ length words.now }
+    requires most { length words.now ≤ 4194304 }
+    requires tables { Keeps words.now table_count_rule }
+    requires slots { Keeps words.now table_slot_rule }
+    requires arrays { Keeps words.now arrays_rule }
+    ensures { told result ≡ first_fault content_rules words.now }
+{
+    let stamps = RuleFault::of(27, stamp_fault(words));
+    let given_back = RuleFault::of(29, given_back_fault(words));
+    let names = RuleFault::of(30, distinct_name_fault(words));
+    stamps.or(given_back).or(names)
 }

@@ -9,6 +9,3 @@ mod error;
 
 pub use checking::check;
 pub use error::CheckError;
-
-#[cfg(test)]
-mod tests;

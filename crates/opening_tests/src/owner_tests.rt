@@ -1,9 +1,12 @@
 ghost use Rattle.std.specs.Prelude.{◌≡◌, length};
 
-use crate::*;
-use pm_model::{NoMemory, fresh};
+use crate::ground::{Change, PAGE_5, image};
+use image_rules::{
+    objects_fault, owned_fault, owner_fault, single_owner_fault, table_count_fault,
+    table_slot_fault,
+};
+use pm_model::NoMemory;
 use std::alloc::Global;
-use std::process::Abort;
 use std::test::Fail;
 
 // The first word that breaks the rule of named blocks, that of single owners, and that of owned blocks.
@@ -28,50 +31,37 @@ fn owner_faults(alloc: Global, words: &[u64]) -> Result<Option<Faults>, NoMemory
     Ok(Some([named, single, owned]))
 }
 
-// The faults of a formatted image of one segment in which words were changed, and then others.
-fn changed_faults(
-    rt: &impl Abort,
-    alloc: Global,
-    table: &[(usize, u64)],
-    changes: &[(usize, u64)],
-) -> Result<Option<Faults>, NoMemory> {
-    let mut words = fresh(alloc, 1)?;
-    for (place, value) in table {
-        assert!(rt; *place < words.len());
-        words[*place] = *value;
+// The faults of a formatted image of one segment with a table, in which words were changed.
+fn changed_faults(alloc: Global, changes: &[Change]) -> Result<Option<Faults>, NoMemory> {
+    let words = image(alloc, &[&TABLE, changes])?;
+    if words.len() != 32768 {
+        return Ok(None);
     }
-    for (place, value) in changes {
-        assert!(rt; *place < words.len());
-        words[*place] = *value;
-    }
-    assert_eq!(rt; words.len(), 32768);
     owner_faults(alloc, &words)
 }
 
 // A table with one column, whose block is the first slot of page 4, of 128 words.
-const TABLE: [(usize, u64); 5] = [(515, 1), (520, 4_294_969_352), (4, 6), (2048, 1), (2056, 1)];
+const TABLE: [Change; 5] = [(515, 1), (520, 4_294_969_352), (4, 6), (2048, 1), (2056, 1)];
 
-// The pointer to page 5, and to the slot of page 6 as a page with one slot.
-const CHUNK: u64 = 4_294_969_856;
-
+// The pointer to the slot of page 6 as a page with one slot.
 const SEGMENT: u64 = 4_294_970_376;
 
 #[test]
 fn each_block_has_one_owner(rt: HostRuntime) -> Result<(), Fail> {
-    let cases: [(&[(usize, u64)], Faults); 12] = [
+    let cases: [(&[Change], Faults); 12] = [
         (&[], [None, None, None]),
         (&[(4, 7)], [Some(520), None, None]),
         (&[(2048, 0)], [Some(520), None, None]),
         (&[(2048, 3)], [None, None, Some(2184)]),
         (&[(5, 17)], [None, None, Some(2560)]),
-        (&[(5, 17), (2065, CHUNK)], [None, None, None]),
-        (&[(5, 18), (2065, CHUNK)], [Some(2065), None, None]),
+        (&[(5, 17), (2065, PAGE_5)], [None, None, None]),
+        (&[(5, 18), (2065, PAGE_5)], [Some(2065), None, None]),
         (
-            &[(5, 17), (2064, 1), (2066, CHUNK)],
+            &[(5, 17), (2064, 1), (2066, PAGE_5)],
             [Some(2066), None, None],
         ),
         (
-            &[(5, 17), (2065, CHUNK), (2081, CHUNK)],
+            &[(5, 17), (2065, PAGE_5), (2081, PAGE_5)],
             [None, Some(2081), None],
         ),
         (
@@ -85,10 +75,8 @@ fn each_block_has_one_owner(rt: HostRuntime) -> Result<(), Fail> {
         ),
     ];
     for (changes, faults) in cases {
-        assert_eq!(rt;
-            changed_faults(&rt, rt.alloc(), &TABLE, changes)?,
-            Some(faults)
-        );
+        let told = changed_faults(rt.alloc(), changes)?;
+        assert_eq!(rt; told, Some(faults), "{changes:?}");
     }
     Ok(())
 }

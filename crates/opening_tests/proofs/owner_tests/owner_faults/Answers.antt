@@ -1,7 +1,7 @@
 use Rattle.std.proofs.Common.{sym, ◌∙◌}
 use Rattle.image_layout.specs.EntryRules.{table_slot_rule, objects_rule}
 use Rattle.image_rules.proofs.Kept.{kept}
-use Rattle.image_rules.proofs.tests.owner_faults.Goals as goal
+use Rattle.opening_tests.proofs.owner_tests.owner_faults.Goals as goal
 
 pub owner_fault-requires-clause-slots : goal.owner_fault-requires-clause-slots
 owner_fault-requires-clause-slots c = kept c.args.words.now table_slot_rule c.table_slot_fault.result c.table_slot_fault.ensures (sym c.is_some-2.ensures ∙ c.if-is_some-2.false)

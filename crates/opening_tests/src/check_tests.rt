@@ -1,0 +1,203 @@
+// The soundness check, on images in which words were changed.
+use crate::ground::{BLOCK, Change, LAST_PAGE, PAGE_5, SLOT, TABLE, image};
+use img_check::{CheckError, check};
+use pm_model::NoMemory;
+use std::alloc::Global;
+use std::test::Fail;
+
+// Three commits, and four rows below the table's bound, whose words stand in the pages 5 to 7, the first chunks of the
+// arrays of creators, of enders and of codes. Row 0 was created by commit 1, row 1 by commit 2 and ended by commit 3, row 2
+// is dead, and row 3 was never created.
+const ROWS: [Change; 15] = [
+    (514, 3),
+    (2057, 4),
+    (5, 17),
+    (6, 17),
+    (7, 17),
+    (2064, 1),
+    (2065, PAGE_5),
+    (2080, 1),
+    (2081, PAGE_5 + 512),
+    (2104, 1),
+    (2105, PAGE_5 + 1024),
+    (2560, 1),
+    (2561, 2),
+    (3073, 3),
+    (2562, u64::MAX),
+];
+
+// A second chunk of each of these arrays, with 1,024 words: the pages 8 and 9, 10 and 11, 12 and 13.
+const SECOND_CREATED: [Change; 3] = [(8, 18), (2064, 2), (2066, PAGE_5 + 1536)];
+
+const SECOND_ENDED: [Change; 3] = [(10, 18), (2080, 2), (2082, PAGE_5 + 2560)];
+
+const SECOND_CODES: [Change; 3] = [(12, 18), (2104, 2), (2106, PAGE_5 + 3584)];
+
+// Whether the rules are kept, and else the first that isn't and the place.
+type Told = Option<(u8, u32)>;
+
+// What the check tells of a formatted image of one segment in which words were changed, list by list.
+fn told_of(alloc: Global, lists: &[&[Change]]) -> Result<Option<Told>, NoMemory> {
+    let words = image(alloc, lists)?;
+    if words.len() != 32768 {
+        return Ok(None);
+    }
+    match check(alloc, &words) {
+        Ok(()) => Ok(Some(None)),
+        Err(CheckError::Unsound { rule, place }) => Ok(Some(Some((rule, place)))),
+        Err(CheckError::NoMemory) => Ok(None),
+    }
+}
+
+#[test]
+fn the_first_broken_rule_is_told(rt: HostRuntime) -> Result<(), Fail> {
+    let cases: [(&[Change], Told); 33] = [
+        (&[], None),
+        (&[(512, 0)], Some((1, 512))),
+        (&[(513, 9)], Some((2, 513))),
+        (&[(514, 1 << 40)], Some((3, 514))),
+        (&[(515, 33)], Some((4, 515))),
+        (&[(0, 0)], Some((5, 0))),
+        (&[(9, 9)], Some((6, 9))),
+        (&[(2048, 11)], Some((7, 2048))),
+        (&[(576, 3)], Some((8, 576))),
+        (&[(522, 1)], Some((9, 522))),
+        (&[(2064, 13)], Some((10, 2064))),
+        (&[(2096, 3)], Some((12, 2096))),
+        (&[(1024, 2)], Some((14, 1024))),
+        (&[(1024, 1), (1028, 3 << 56)], Some((15, 1028))),
+        (&[(696, 1), (697, BLOCK), (698, BLOCK)], Some((16, 696))),
+        (&[(576, 1), (577, SLOT), (578, BLOCK)], Some((16, 576))),
+        (&[(521, BLOCK)], Some((17, 521))),
+        (&[(1984, 1)], Some((18, 1984))),
+        (&[(1985, 1)], Some((18, 1985))),
+        (&[(2047, 1)], Some((18, 2047))),
+        (
+            &[(1986, 1), (1987, LAST_PAGE), (32256 + 255, 1)],
+            Some((18, 32511)),
+        ),
+        (
+            &[(1986, 1), (1987, LAST_PAGE), (32256 + 256, 1)],
+            Some((19, 1987)),
+        ),
+        (&[(2048, 0)], Some((19, 520))),
+        (&[(515, 2), (521, BLOCK)], Some((20, 521))),
+        (&[(2048, 3)], Some((21, 2184))),
+        (&[(9, 18), (10, 1), (5120, 5)], Some((21, 4608))),
+        (&[(2057, 1)], Some((27, 2057))),
+        (&[(9, 1), (4608, 5)], Some((29, 4608))),
+        (&[(63, 1), (32767, 5)], Some((29, 32767))),
+        (&[(9, 1), (5120, 5)], None),
+        (&[(2056, 2), (2136, 1), (2137, 97)], Some((30, 2137))),
+        (&[(2056, 2), (2136, 2), (2137, 98)], None),
+        (
+            &[
+                (515, 2),
+                (521, BLOCK + 128),
+                (2048, 3),
+                (2184, 1),
+                (2186, 116),
+                (2224, 1),
+                (2225, 97),
+            ],
+            Some((30, 2186)),
+        ),
+    ];
+    for (changes, told) in cases {
+        let found = told_of(rt.alloc(), &[&TABLE, changes])?;
+        assert_eq!(rt; found, Some(told), "{changes:?}");
+    }
+    Ok(())
+}
+
+#[test]
+fn stamps_fit_the_bound_and_the_commits(rt: HostRuntime) -> Result<(), Fail> {
+    let cases: [(&[Change], Told); 27] = [
+        (&[], None),
+        // The bound, and the rows of each array.
+        (&[(2057, 0)], Some((27, 2560))),
+        (&[(2057, 2)], Some((27, 2562))),
+        (&[(2057, 3)], None),
+        (&[(2057, 512)], None),
+        (&[(2057, 513)], Some((27, 2057))),
+        (&[(2064, 0)], Some((27, 2057))),
+        (&[(2080, 0)], Some((27, 2057))),
+        (&[(2104, 0)], Some((27, 2057))),
+        // A row's creator: none, none that is kept, or a commit.
+        (&[(2563, 3)], None),
+        (&[(2563, 4)], Some((27, 2563))),
+        (&[(2563, u64::MAX - 1)], Some((27, 2563))),
+        (&[(514, 1)], Some((27, 2561))),
+        // The commit that ended it: not before its creator.
+        (&[(3073, 2)], None),
+        (&[(3073, 1)], Some((27, 3073))),
+        (&[(3073, 4)], Some((27, 3073))),
+        (&[(3074, 3)], Some((27, 3074))),
+        (&[(3075, 1)], Some((27, 3075))),
+        // Row by row, the creator first.
+        (&[(2561, 4), (3073, 4)], Some((27, 2561))),
+        (&[(3072, 4), (2561, 4)], Some((27, 3072))),
+        // From the bound on.
+        (&[(2564, 1)], Some((27, 2564))),
+        (&[(2564, u64::MAX)], Some((27, 2564))),
+        (&[(3076, 1)], Some((27, 3076))),
+        (&[(3071, 1)], Some((27, 3071))),
+        (&[(3583, 1)], Some((27, 3583))),
+        // The rules on both sides.
+        (&[(2081, PAGE_5), (3073, 1)], Some((20, 2081))),
+        (&[(3583, 1), (9, 1), (4608, 5)], Some((27, 3583))),
+    ];
+    for (changes, told) in cases {
+        let found = told_of(rt.alloc(), &[&TABLE, &ROWS, changes])?;
+        assert_eq!(rt; found, Some(told), "{changes:?}");
+    }
+    Ok(())
+}
+
+// The words of rows that an array has and another has not.
+#[test]
+fn stamps_of_a_longer_array_are_tried(rt: HostRuntime) -> Result<(), Fail> {
+    let cases: [(&[Change], &[Change], Told); 6] = [
+        (&SECOND_CREATED, &[], None),
+        (&SECOND_CREATED, &[(4096, 1)], Some((27, 4096))),
+        (&SECOND_CREATED, &[(5119, 1)], Some((27, 5119))),
+        (&SECOND_ENDED, &[], None),
+        (&SECOND_ENDED, &[(5120, 1)], Some((27, 5120))),
+        (&SECOND_ENDED, &[(6143, 1)], Some((27, 6143))),
+    ];
+    for (longer, changes, told) in cases {
+        let found = told_of(rt.alloc(), &[&TABLE, &ROWS, longer, changes])?;
+        assert_eq!(rt; found, Some(told), "{changes:?}");
+    }
+    Ok(())
+}
+
+// Rows 512 to 1,535 stand in the second chunks.
+#[test]
+fn stamps_of_second_chunks_are_tried(rt: HostRuntime) -> Result<(), Fail> {
+    let cases: [(&[Change], Told); 8] = [
+        (&[], None),
+        (&[(2057, 1537)], Some((27, 2057))),
+        (&[(2057, 1536), (4096, 1), (5120, 1)], None),
+        (&[(2057, 513), (4096, 1), (5120, 1)], None),
+        (&[(2057, 512), (4096, 1), (5120, 1)], Some((27, 4096))),
+        (&[(2057, 1536), (4101, 2), (5125, 1)], Some((27, 5125))),
+        (&[(2057, 1536), (5119, 3), (6143, 3)], None),
+        (&[(2057, 1535), (5119, 3), (6143, 3)], Some((27, 5119))),
+    ];
+    for (changes, told) in cases {
+        let found = told_of(
+            rt.alloc(),
+            &[
+                &TABLE,
+                &ROWS,
+                &SECOND_CREATED,
+                &SECOND_ENDED,
+                &SECOND_CODES,
+                changes,
+            ],
+        )?;
+        assert_eq!(rt; found, Some(told), "{changes:?}");
+    }
+    Ok(())
+}

@@ -1,0 +1,46 @@
+// Images that are built word by word, and what stands in them.
+use pm_model::{NoMemory, fresh};
+use std::alloc::Global;
+
+/// A word by its place, and what it becomes.
+pub(crate) type Change = (usize, u64);
+
+/// A formatted image with one table `t a:int` without rows and values, whose block is the first slot of page 4.
+pub(crate) const TABLE: [Change; 8] = [
+    (515, 1),
+    (520, BLOCK),
+    (4, 6),
+    (2048, 1),
+    (2056, 1),
+    (2058, 116),
+    (2096, 1),
+    (2097, 97),
+];
+
+/// The pointers to the first table slot, and to the first slot of page 4 and the last page of one segment.
+pub(crate) const SLOT: u64 = 4_294_967_816;
+
+pub(crate) const BLOCK: u64 = 4_294_969_352;
+
+pub(crate) const LAST_PAGE: u64 = 4_294_999_552;
+
+/// The pointer to page 5.
+pub(crate) const PAGE_5: u64 = 4_294_969_856;
+
+/// Sets words, those in the image.
+fn set_words(words: &mut [u64], changes: &[Change]) {
+    for (place, word) in changes {
+        if *place < words.len() {
+            words[*place] = *word;
+        }
+    }
+}
+
+/// A formatted image of one segment in which words were changed, list by list.
+pub(crate) fn image(alloc: Global, lists: &[&[Change]]) -> Result<Vec<u64>, NoMemory> {
+    let mut words = fresh(alloc, 1)?;
+    for changes in lists {
+        set_words(&mut words, changes);
+    }
+    Ok(words)
+}

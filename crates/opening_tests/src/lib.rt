@@ -1,0 +1,11 @@
+//! Tests of the layer of openings: `image_rules` and `img_check` on images in which words were changed.
+//!
+//! Each test is a table: what was changed, and what is told. What a clause says is proved, and is not tried again here.
+#![tactic(auto)]
+
+#[cfg(test)]
+mod check_tests;
+#[cfg(test)]
+mod ground;
+#[cfg(test)]
+mod owner_tests;
