@@ -1,19 +1,19 @@
 -- The plan of the changes that are made for a lane is that of opening's step.
-use Rattle.std.proofs.Common.{◌≡◌, ◌≢◌, ℕ, ◌<◌, List, [], ◌∷◌, ◌++◌, length, get_or, sym, ◌∙◌, ap}
+use Rattle.std.proofs.Common.{◌≡◌, ◌≢◌, ℕ, ◌<◌, List, [], ◌∷◌, ◌++◌, length, get_or, sym, ◌∙◌, ap, subst}
 use Rattle.pm_model.specs.declared.action.Action.{Action}
 use Rattle.image_layout.specs.declared.place.Place.{Place}
-use Rattle.pm_model.specs.Device.{Device}
 use Rattle.image_layout.specs.Fixed.{lane_op_at, lane_block_at}
-use Rattle.pm_model.specs.Plans.{Part, plan_of, one_store, EachCut, IsPlan, Play, IsPlaying, IsCrashImageWithin, IsTakenBack}
+use Rattle.pm_model.specs.Plans.{Part, plan_of, one_store, EachCut, IsPlan, finished}
 use Rattle.pm_model.specs.Needed.{needed_parts}
-use Rattle.pm_model.proofs.PlanLaw.{plan_survives_parts}
+use Rattle.pm_model.specs.Changes.{HoldsOnWords}
 use Rattle.heap_palloc.specs.Lane.{mended_lane}
 use Rattle.shown_state.specs.LaneRules.{MayMend}
 use Rattle.shown_state.specs.Mending.{lane_mending, release_part}
-use Rattle.shown_state.proofs.LaneMending.{AtWork, owner_of, block_of, mending-freeing, mending-done, mending-undone, step-idle, some-at_work, lane_plan, lane_cuts}
+use Rattle.shown_state.proofs.LaneMending.{AtWork, owner_of, block_of, mending-freeing, mending-done, mending-undone, step-idle, some-at_work, lane_plan, lane_cuts, lane_mends, lane_idle}
 use Rattle.pmem_recover.specs.declared.change.Change.{Change}
 use Rattle.pmem_recover.specs.Changes.{change, change_parts}
 use Rattle.pmem_recover.specs.Lanes.{release}
+use Rattle.pmem_recover.specs.LaneStep.{EndsLaneStep, lane_step}
 use Rattle.pmem_recover.specs.Steps.{step_parts}
 
 -- a plan that was empty and got the needed ones of these changes
@@ -61,7 +61,16 @@ pub step_cuts : (words : List ℕ) (lane : ℕ) → MayMend words lane → EachC
 unfolding step_parts
 step_cuts = lane_cuts
 
-pub lane_survives : (lane : ℕ) (play : Play) (n : ℕ) (left : List Action) (d : Device) (image base : List ℕ) → IsPlaying play n left d → IsCrashImageWithin play.own d image
-    → IsTakenBack play image base → play.parts ≡ step_parts lane_mending base lane → MayMend base lane → mended_lane lane image ≡ mended_lane lane base
-lane_survives lane play n left d image base playing image_is back parts may =
-    plan_survives_parts (λ words. mended_lane lane words ≡ mended_lane lane base) (step_parts lane_mending base lane) play n left d image base playing image_is back parts (step_cuts base lane may)
+pub step_ends : (lane : ℕ) (base : List ℕ) → MayMend base lane → EndsLaneStep lane base (finished (step_parts lane_mending base lane) base)
+unfolding step_parts
+step_ends lane base may =
+    let mends = lane_mends base lane may in
+    record { mended = mends; idle = ap (λ (words : List ℕ). get_or words (lane_op_at lane) 0) mends ∙ lane_idle base lane may }
+
+pub step_holds : (lane : ℕ) → HoldsOnWords (lane_step lane)
+step_holds lane = record {
+  plan = λ base may. step_plan base lane may;
+  cuts = λ base may. step_cuts base lane may;
+  end = λ base may. step_ends lane base may;
+  stable = λ old new same may. (subst (λ (words : List ℕ). MayMend words lane) (sym same) may, ap (λ (words : List ℕ). step_parts lane_mending words lane) same);
+}
