@@ -1,4 +1,4 @@
-ghost use Rattle.std.specs.Prelude.{◌≡◌, ◌+◌, ◌^◌, ◌++◌, ◌<◌, ◌≤◌, Some, IfSome, IfOk, OnOk, OnErr, length, take, drop, option_copied, slice_get, filter, option_to_list, not, ◌==◌, ◌&&◌, option_map};
+ghost use Rattle.std.specs.Prelude.{◌≡◌, ◌+◌, ◌^◌, ◌++◌, ◌<◌, ◌≤◌, Some, IfSome, IfOk, IsTrue, OnOk, OnErr, length, take, drop, option_copied, slice_get, filter, option_to_list, not, ◌==◌, ◌&&◌, option_map};
 ghost use Rattle.std.specs.Option.{option_map_or};
 ghost use Rattle.mv_model.specs.State.{empty, transaction_of};
 ghost use Rattle.mv_model.specs.Name.{same_name};
@@ -6,7 +6,7 @@ ghost use Rattle.mv_model.specs.Next.{with_created, with_ended, after_write, wit
 ghost use Rattle.mv_model.specs.History.{IsSession};
 ghost use Rattle.mv_model.specs.View.{seen_values, next_row_of, numbered};
 ghost use Rattle.mv_model.specs.Query.{meets, pred_misfit};
-ghost use Rattle.mv_model.specs.Answer.{answer, create_reply, get_reply, scan_reply, count_reply, sum_reply, insert_reply, update_reply, delete_reply, commit_reply, table_named, columns_of, rows_meeting, holds_row, holder_of, later_commit, conflict};
+ghost use Rattle.mv_model.specs.Answer.{answer, create_reply, may_want_memory, get_reply, scan_reply, count_reply, sum_reply, insert_reply, update_reply, delete_reply, commit_reply, table_named, columns_of, rows_meeting, holds_row, holder_of, later_commit, conflict};
 ghost use Rattle.mv_model.specs.declared.reply.Reply.TheVariants as reply;
 ghost use Rattle.mv_model.specs.declared.call.Call.TheVariants as call;
 
@@ -15,7 +15,7 @@ use crate::query::{find_misfit, find_pred_misfit, find_sum_misfit, meets_pred, s
 use crate::transaction::{Transaction, find_left};
 use crate::write_set::{CreatedRow, RowKey, WriteSet, place_of_ending};
 use crate::{
-    Call, Column, Holding, ListBuilder, Name, NoMemory, Pred, Reply, RowList, Shape, TableRow,
+    BoxedShape, Call, Column, Holding, ListBuilder, Name, NoMemory, Pred, Reply, RowList, TableRow,
     Values,
 };
 use std::alloc::{AllocError, Global};
@@ -58,10 +58,10 @@ fn misfit_of_pred(columns: &[Column], pred: &Option<Pred>) -> Option<u8>
 }
 
 /// A table.
-#[derive(Debug, Drop)]
+#[derive(Drop)]
 struct Table {
     name: Name,
-    shape: Shape,
+    shape: BoxedShape,
     next_row: u32,
 }
 
@@ -84,7 +84,7 @@ impl Table {
         ensures columns { result.now ≡ self.now.columns }
         ensures most { length self.now.columns ≤ 16 }
     {
-        self.shape.columns()
+        self.shape.shape().columns()
     }
 
     fn next_row(&self) -> u32
@@ -95,7 +95,7 @@ impl Table {
 }
 
 /// A multiversion table store that runs one call at a time.
-#[derive(Debug, Drop)]
+#[derive(Drop)]
 pub struct TableState {
     tables: Vec<Table>,
     commits: Vec<WriteSet>,
@@ -294,7 +294,8 @@ impl TableState {
 
     fn begin_reply(&self, session: u8) -> Result<Reply, NoMemory>
         requires { session ≤ 16 }
-        ensures { IfOk result (λ due. due ≡ answer self.now session call.Begin) }
+        ensures due { IfOk result (λ due. due ≡ answer self.now session call.Begin) }
+        ensures memory { OnErr result (IsTrue (may_want_memory (answer self.now session call.Begin))) }
     {
         if self.transaction(session).is_some() {
             return Ok(Reply::AlreadyOpen);
@@ -309,7 +310,8 @@ impl TableState {
     }
 
     fn get_reply(&self, own: &Transaction, table: usize, row: u32) -> Result<Reply, NoMemory>
-        ensures { IfOk result (λ due. due ≡ get_reply self.now own.now table row) }
+        ensures due { IfOk result (λ due. due ≡ get_reply self.now own.now table row) }
+        ensures memory { OnErr result (IsTrue (may_want_memory (get_reply self.now own.now table row))) }
     {
         match self.seen(own, table, row) {
             None => Ok(Reply::NoRow),
@@ -324,7 +326,8 @@ impl TableState {
         pred: &Option<Pred>,
     ) -> Result<Reply, NoMemory>
         requires { table < length self.now.tables }
-        ensures { IfOk result (λ due. due ≡ scan_reply self.now own.now table pred.now) }
+        ensures due { IfOk result (λ due. due ≡ scan_reply self.now own.now table pred.now) }
+        ensures memory { OnErr result (IsTrue (may_want_memory (scan_reply self.now own.now table pred.now))) }
     {
         if let Some(column) = misfit_of_pred(self.columns(table), pred) {
             return Ok(Reply::WrongShape { column });
@@ -339,7 +342,8 @@ impl TableState {
         pred: &Option<Pred>,
     ) -> Result<Reply, NoMemory>
         requires { table < length self.now.tables }
-        ensures { IfOk result (λ due. due ≡ count_reply self.now own.now table pred.now) }
+        ensures due { IfOk result (λ due. due ≡ count_reply self.now own.now table pred.now) }
+        ensures memory { OnErr result (IsTrue (may_want_memory (count_reply self.now own.now table pred.now))) }
     {
         if let Some(column) = misfit_of_pred(self.columns(table), pred) {
             return Ok(Reply::WrongShape { column });
@@ -355,7 +359,8 @@ impl TableState {
         pred: &Option<Pred>,
     ) -> Result<Reply, NoMemory>
         requires { table < length self.now.tables }
-        ensures { IfOk result (λ due. due ≡ sum_reply self.now own.now table column.now pred.now) }
+        ensures due { IfOk result (λ due. due ≡ sum_reply self.now own.now table column.now pred.now) }
+        ensures memory { OnErr result (IsTrue (may_want_memory (sum_reply self.now own.now table column.now pred.now))) }
     {
         let columns = self.columns(table);
         if let Some(column) = find_sum_misfit(1, column, columns) {
@@ -447,7 +452,8 @@ impl TableState {
 
     fn get_answer(&self, session: u8, name: &Name, row: u32) -> Result<Reply, NoMemory>
         requires { session ≤ 16 }
-        ensures { IfOk result (λ due. due ≡ answer self.now session (call.Get name.now row)) }
+        ensures due { IfOk result (λ due. due ≡ answer self.now session (call.Get name.now row)) }
+        ensures memory { OnErr result (IsTrue (may_want_memory (answer self.now session (call.Get name.now row)))) }
     {
         let Some(own) = self.transaction(session) else {
             return Ok(Reply::NoTxn);
@@ -460,7 +466,8 @@ impl TableState {
 
     fn scan_answer(&self, session: u8, name: &Name, pred: &Option<Pred>) -> Result<Reply, NoMemory>
         requires { session ≤ 16 }
-        ensures { IfOk result (λ due. due ≡ answer self.now session (call.Scan name.now pred.now)) }
+        ensures due { IfOk result (λ due. due ≡ answer self.now session (call.Scan name.now pred.now)) }
+        ensures memory { OnErr result (IsTrue (may_want_memory (answer self.now session (call.Scan name.now pred.now)))) }
     {
         let Some(own) = self.transaction(session) else {
             return Ok(Reply::NoTxn);
@@ -473,7 +480,8 @@ impl TableState {
 
     fn count_answer(&self, session: u8, name: &Name, pred: &Option<Pred>) -> Result<Reply, NoMemory>
         requires { session ≤ 16 }
-        ensures { IfOk result (λ due. due ≡ answer self.now session (call.Count name.now pred.now)) }
+        ensures due { IfOk result (λ due. due ≡ answer self.now session (call.Count name.now pred.now)) }
+        ensures memory { OnErr result (IsTrue (may_want_memory (answer self.now session (call.Count name.now pred.now)))) }
     {
         let Some(own) = self.transaction(session) else {
             return Ok(Reply::NoTxn);
@@ -492,7 +500,8 @@ impl TableState {
         pred: &Option<Pred>,
     ) -> Result<Reply, NoMemory>
         requires { session ≤ 16 }
-        ensures { IfOk result (λ due. due ≡ answer self.now session (call.Sum name.now column.now pred.now)) }
+        ensures due { IfOk result (λ due. due ≡ answer self.now session (call.Sum name.now column.now pred.now)) }
+        ensures memory { OnErr result (IsTrue (may_want_memory (answer self.now session (call.Sum name.now column.now pred.now)))) }
     {
         let Some(own) = self.transaction(session) else {
             return Ok(Reply::NoTxn);
@@ -503,49 +512,43 @@ impl TableState {
         self.sum_reply(own, table, column, pred)
     }
 
-    fn insert_answer(&self, session: u8, name: &Name, values: &Values) -> Result<Reply, NoMemory>
+    fn insert_answer(&self, session: u8, name: &Name, values: &Values) -> Reply
         requires { session ≤ 16 }
-        ensures { IfOk result (λ due. due ≡ answer self.now session (call.Insert name.now values.now)) }
+        ensures { result ≡ answer self.now session (call.Insert name.now values.now) }
     {
         let Some(own) = self.transaction(session) else {
-            return Ok(Reply::NoTxn);
+            return Reply::NoTxn;
         };
         let Some(table) = self.table_place(name) else {
-            return Ok(Reply::NoTable);
+            return Reply::NoTable;
         };
-        Ok(self.insert_reply(own, table, values))
+        self.insert_reply(own, table, values)
     }
 
-    fn update_answer(
-        &self,
-        session: u8,
-        name: &Name,
-        row: u32,
-        values: &Values,
-    ) -> Result<Reply, NoMemory>
+    fn update_answer(&self, session: u8, name: &Name, row: u32, values: &Values) -> Reply
         requires { session ≤ 16 }
-        ensures { IfOk result (λ due. due ≡ answer self.now session (call.Update name.now row values.now)) }
+        ensures { result ≡ answer self.now session (call.Update name.now row values.now) }
     {
         let Some(own) = self.transaction(session) else {
-            return Ok(Reply::NoTxn);
+            return Reply::NoTxn;
         };
         let Some(table) = self.table_place(name) else {
-            return Ok(Reply::NoTable);
+            return Reply::NoTable;
         };
-        Ok(self.update_reply(session, own, table, row, values))
+        self.update_reply(session, own, table, row, values)
     }
 
-    fn delete_answer(&self, session: u8, name: &Name, row: u32) -> Result<Reply, NoMemory>
+    fn delete_answer(&self, session: u8, name: &Name, row: u32) -> Reply
         requires { session ≤ 16 }
-        ensures { IfOk result (λ due. due ≡ answer self.now session (call.Delete name.now row)) }
+        ensures { result ≡ answer self.now session (call.Delete name.now row) }
     {
         let Some(own) = self.transaction(session) else {
-            return Ok(Reply::NoTxn);
+            return Reply::NoTxn;
         };
         let Some(table) = self.table_place(name) else {
-            return Ok(Reply::NoTable);
+            return Reply::NoTable;
         };
-        Ok(self.delete_reply(session, own, table, row))
+        self.delete_reply(session, own, table, row)
     }
 
     fn commit_answer(&self, session: u8) -> Reply
@@ -568,18 +571,22 @@ impl TableState {
         }
     }
 
-    /// The reply that is due to a call of the session.
+    /// The reply that is due to a call of the session. Memory is wanted only where that reply holds values or is
+    /// gathered from rows; no refusal takes any.
     pub fn answer(&self, session: u8, call: &Call) -> Result<Reply, NoMemory>
         requires { IsSession session }
-        ensures { IfOk result (λ due. due ≡ answer self.now session call.now) }
+        ensures due { IfOk result (λ due. due ≡ answer self.now session call.now) }
+        ensures memory { OnErr result (IsTrue (may_want_memory (answer self.now session call.now))) }
     {
         match call {
             Call::Create { table, shape: _ } => Ok(self.create_reply(table)),
             Call::Begin => self.begin_reply(session),
-            Call::Insert { table, values } => self.insert_answer(session, table, values),
+            Call::Insert { table, values } => Ok(self.insert_answer(session, table, values)),
             Call::Get { table, row } => self.get_answer(session, table, *row),
-            Call::Update { table, row, values } => self.update_answer(session, table, *row, values),
-            Call::Delete { table, row } => self.delete_answer(session, table, *row),
+            Call::Update { table, row, values } => {
+                Ok(self.update_answer(session, table, *row, values))
+            }
+            Call::Delete { table, row } => Ok(self.delete_answer(session, table, *row)),
             Call::Scan { table, pred } => self.scan_answer(session, table, pred),
             Call::Count { table, pred } => self.count_answer(session, table, pred),
             Call::Sum {
@@ -593,7 +600,7 @@ impl TableState {
         }
     }
 
-    fn create(&mut self, name: &Name, shape: &Shape) -> Result<(), NoMemory>
+    fn create(&mut self, name: &Name, shape: &BoxedShape) -> Result<(), NoMemory>
         ensures ok { OnOk result (self.new ≡ after_create self.old name.now shape.now) }
         ensures err { OnErr result (self.new ≡ self.old) }
     {

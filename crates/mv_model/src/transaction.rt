@@ -12,7 +12,7 @@ use crate::{NoMemory, Values};
 use std::marker::Model;
 
 /// An open transaction.
-#[derive(Debug, Drop)]
+#[derive(Drop)]
 pub(crate) struct Transaction {
     pub(crate) number: u64,
     pub(crate) snapshot: u64,

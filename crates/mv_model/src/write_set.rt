@@ -10,7 +10,7 @@ use crate::{NoMemory, Values};
 use std::marker::Model;
 
 /// Which row: the place of its table among the tables, and its number in that table.
-#[derive(Clone, Copy, Debug)]
+#[derive(Clone, Copy)]
 pub(crate) struct RowKey {
     pub(crate) table: usize,
     pub(crate) row: u32,
@@ -44,7 +44,7 @@ impl RowKey {
 }
 
 /// A row with the values with which it was created.
-#[derive(Debug, Drop)]
+#[derive(Drop)]
 pub(crate) struct CreatedRow {
     pub(crate) key: RowKey,
     pub(crate) values: Values,
@@ -79,7 +79,7 @@ impl CreatedRow {
 }
 
 /// What a transaction writes.
-#[derive(Debug, Drop)]
+#[derive(Drop)]
 pub(crate) struct WriteSet {
     pub(crate) created: Vec<CreatedRow>,
     pub(crate) ended: Vec<RowKey>,
