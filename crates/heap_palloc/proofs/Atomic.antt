@@ -16,14 +16,19 @@ use Rattle.heap_palloc.proofs.Stages.{pointer-some, mended-idle, at-op, at-mark,
 pub same-lane : (lane : ℕ) (xs ys : List ℕ) → ys ≡ xs → SameButLane lane xs ys
 same-lane lane xs ys e = record { size = ap (length {A = ℕ}) e; each = λ w x y. ap (λ (zs : List ℕ). get_or zs w 0) e }
 
--- Until the lane is at work, an image has the words before.
+-- until the lane is at work, an image differs from the words before in the lane alone
+pub lane_part-same : (base : List ℕ) (a : Allocation) (image : List ℕ) → IsBetween base (words_after (lane_part a) base) image → SameButLane a.lane base image
+lane_part-same base a image between = record {
+  size = between.size;
+  each = λ w x y. ⊎_elim (λ e. e) (λ e. e ∙ words_after-kept (lane_part a) base w
+      (or_from (eqb w (lane_dest_at a.lane)) _ (ne_eqb w (lane_dest_at a.lane) x) (or_from (eqb w (lane_block_at a.lane)) false (ne_eqb w (lane_block_at a.lane) y) refl))) (between.each w);
+}
+
+-- so, mended, it has the words before
 pub lane_part-cut : (base : List ℕ) (a : Allocation) → get_or base (lane_op_at a.lane) 0 ≡ 0 → (image : List ℕ) → IsBetween base (words_after (lane_part a) base) image → SameButLane a.lane base (mended_lane a.lane image)
-lane_part-cut base a idle image between = subst (λ (xs : List ℕ). SameButLane a.lane base xs) (sym (mended-idle a.lane image (kept (lane_op_at a.lane) (λ e. omega (arith, e)) (λ e. omega (arith, e)) ∙ idle)))
-    (record { size = between.size; each = kept })
-  where
-    kept : (w : ℕ) → w ≢ lane_dest_at a.lane → w ≢ lane_block_at a.lane → get_or image w 0 ≡ get_or base w 0
-    kept w x y = ⊎_elim (λ e. e) (λ e. e ∙ words_after-kept (lane_part a) base w
-        (or_from (eqb w (lane_dest_at a.lane)) _ (ne_eqb w (lane_dest_at a.lane) x) (or_from (eqb w (lane_block_at a.lane)) false (ne_eqb w (lane_block_at a.lane) y) refl))) (between.each w)
+lane_part-cut base a idle image between =
+    let same = lane_part-same base a image between in
+    subst (λ (xs : List ℕ). SameButLane a.lane base xs) (sym (mended-idle a.lane image (same.each (lane_op_at a.lane) (λ e. omega (arith, e)) (λ e. omega (arith, e)) ∙ idle))) same
 
 module _ (base : List ℕ) (a : Allocation) where
   -- the words after each part

@@ -1,11 +1,11 @@
 -- The plans on a big block: an allocation of clean pages, and a freeing.
-use Rattle.std.proofs.Common.{◌≡◌, ◌≢◌, inl, ⊎_elim, ℕ, ◌+◌, ◌*◌, ◌/◌, ◌%◌, ◌<◌, ◌≤◌, true, List, length, get_or, sym, ◌∙◌, ap, subst, arith}
-use Rattle.std.proofs.lemmas.Bool.{eq-eqb, cond-true, cases_eq}
+use Rattle.std.proofs.Common.{◌≡◌, ◌≢◌, ◌⊎◌, inl, inr, ⊎_elim, ℕ, ◌+◌, ◌*◌, ◌/◌, ◌%◌, ◌<◌, ◌≤◌, Bool, true, not, ◌&&◌, List, length, get_or, sym, ◌∙◌, ap, subst, arith}
+use Rattle.std.proofs.lemmas.Bool.{eq-eqb, cond-true, cases_eq, cases_lt, both_ways}
 use Rattle.image_layout.specs.Fixed.{descriptor_at}
 use Rattle.image_layout.specs.Pointer.{pointer_word}
 use Rattle.image_layout.specs.Places.{page_of, page_at}
 use Rattle.pm_model.specs.Plans.{finished}
-use Rattle.image_layout.specs.Blocks.{descriptor_of, bitmap_of, is_small_page, live_blocks}
+use Rattle.image_layout.specs.Blocks.{descriptor_of, bitmap_of, says_small, is_inside, is_small_page, live_blocks}
 use Rattle.heap_palloc.specs.Lane.{is_big_place, mark_at, unmarked}
 use Rattle.heap_palloc.specs.Parts.{allocation_parts, freeing_parts}
 use Rattle.heap_palloc.specs.Shown.{IsOutsideLane, IsAt, IsPlaced, IsClearMark, MayAllocate, MayFree}
@@ -14,7 +14,8 @@ use Rattle.heap_palloc.proofs.Changes.{shown_from_atomic}
 use Rattle.heap_palloc.proofs.Slots.{descriptor_outside-lane, bitmap_outside-lane}
 use Rattle.heap_palloc.proofs.SlotPlans.{owner_outside-lane}
 use Rattle.heap_palloc.proofs.Atomic.{allocation_atomic, allocation_ends, freeing_atomic, freeing_ends}
-use Rattle.heap_palloc.proofs.BigBlocks.{HeadsRun, is_inside-before, head-gains}
+use Rattle.heap_palloc.proofs.BigBlocks.{HeadsRun, inside_elsewhere, is_inside-before, no_small_new, head-gains}
+use Rattle.heap_palloc.proofs.LiveBlocks.{SameHeap}
 
 pub big_place : (first : ℕ) → is_big_place (page_at first) ≡ true
 big_place first = eq-eqb (page_at first % 512) 0 (omega arith)
@@ -49,15 +50,18 @@ module _ (words : List ℕ) (r : Pages) (idle : IsIdle words r.lane r.owner) (ru
 -- ── the stages of an allocation of pages, as a heap ──
 
 module _ (base words : List ℕ) (r : Pages) (op mark owner : ℕ) (idle : IsIdle base r.lane r.owner) (run : IsRun base r.first r.pages) (at : IsAt base (pages_allocation r) op mark owner words) where
-  page-head : descriptor_of words r.first ≡ mark
+  pub page-head : descriptor_of words r.first ≡ mark
   page-head = ap (λ (w : ℕ). get_or words w 0) (sym (mark-page r.first)) ∙ at.mark_is
 
-  page-others : (page : ℕ) → page ≢ r.first → descriptor_of words page ≡ descriptor_of base page
+  pub page-others : (page : ℕ) → page ≢ r.first → descriptor_of words page ≡ descriptor_of base page
   page-others page apart = at.others (descriptor_at page) (descriptor_outside-lane r.lane page idle.lane_is) (λ e. apart (omega (arith, e ∙ mark-page r.first))) (λ e. omega (arith, e, idle.owner_is.no_descriptor))
 
-  page-bitmap : (page : ℕ) → is_small_page base page ≡ true → bitmap_of words page ≡ bitmap_of base page
+  pub page-bitmap : (page : ℕ) → is_small_page base page ≡ true → bitmap_of words page ≡ bitmap_of base page
   page-bitmap page small = at.others (page_at page) (bitmap_outside-lane r.lane page idle.lane_is) (λ e. omega (arith, e ∙ mark-page r.first, run.page_is.behind_header))
       (λ e. idle.owner_is.no_bitmap (ap (is_small_page base) (omega (arith, e)) ∙ small) (omega (arith, e)))
+
+  pub pages_keeps : KeepsElsewhere r.lane r.owner r.first r.pages base words
+  pages_keeps = record { size = at.size; each = λ w e. at.others w e.outside_lane (λ x. e.no_descriptor r.first (omega arith) (omega (arith, run.some)) (x ∙ mark-page r.first)) e.no_owner }
 
 -- ── clean pages are allocated ──
 
@@ -78,18 +82,68 @@ module _ (base : List ℕ) (r : Pages) (may : MayTakePages base r) where
   ends : IsAt base (pages_allocation r) 0 (16 + r.pages) (pointer_word (page_at r.first)) final
   ends = allocation_ends base (pages_allocation r) take_pages_may
 
+  -- once the head is marked
+  module _ (op owner : ℕ) (xs : List ℕ) (at : IsAt base (pages_allocation r) op (16 + r.pages) owner xs) where
+    pub heads_at : HeadsRun base xs r.first r.pages
+    heads_at = record {
+      size = at.size;
+      in_image = may.run.in_image;
+      in_segment = may.run.in_segment;
+      some = may.run.some;
+      most = omega (arith, may.run.in_segment, may.run.page_is.behind_header);
+      not_inside = may.run.not_inside;
+      are_free = λ k lt. omega (arith, may.clean k lt);
+      head = page-head base xs r op (16 + r.pages) owner may.idle may.run at;
+      others = page-others base xs r op (16 + r.pages) owner may.idle may.run at;
+      bitmaps = λ page small _. page-bitmap base xs r op (16 + r.pages) owner may.idle may.run at page small;
+    }
+
+    -- a page that is small then was small before
+    small_before : (page : ℕ) → is_small_page xs page ≡ true → is_small_page base page ≡ true
+    small_before page small = by_place (cases_lt page r.first) (cases_lt page (r.first + r.pages))
+      where
+        outside : page ≢ r.first → (page < r.first) ⊎ ((r.first + r.pages ≤ page) ⊎ (page ≡ r.first)) → is_small_page base page ≡ true
+        outside apart where_is =
+            ap (λ (i : Bool). not i && says_small (descriptor_of base page)) (sym (inside_elsewhere base xs r.first r.pages heads_at page where_is))
+            ∙ ap (λ (d : ℕ). not (is_inside xs page) && says_small d) (sym (page-others base xs r op (16 + r.pages) owner may.idle may.run at page apart)) ∙ small
+
+        by_place : (page < r.first) ⊎ (r.first ≤ page) → (page < r.first + r.pages) ⊎ (r.first + r.pages ≤ page) → is_small_page base page ≡ true
+        by_place (inl below) other = outside (λ e. omega (arith, e, below)) (inl below)
+        by_place (inr from) (inr behind) = outside (λ e. omega (arith, e, behind, may.run.some)) (inr (inl behind))
+        by_place (inr from) (inl within) = absurd (both_ways (is_small_page xs page) (no_small_new base xs r.first r.pages heads_at page from within) small)
+
   pub take_heads : HeadsRun base (finished (allocation_parts (pages_allocation r)) base) r.first r.pages
-  take_heads = record {
-    size = ends.size;
-    in_image = may.run.in_image;
-    in_segment = may.run.in_segment;
-    some = may.run.some;
-    most = omega (arith, may.run.in_segment, may.run.page_is.behind_header);
-    not_inside = may.run.not_inside;
-    are_free = λ k lt. omega (arith, may.clean k lt);
-    head = page-head base final r 0 (16 + r.pages) (pointer_word (page_at r.first)) may.idle may.run ends;
-    others = page-others base final r 0 (16 + r.pages) (pointer_word (page_at r.first)) may.idle may.run ends;
-    bitmaps = λ page small _. page-bitmap base final r 0 (16 + r.pages) (pointer_word (page_at r.first)) may.idle may.run ends page small;
+  take_heads = heads_at 0 (pointer_word (page_at r.first)) final ends
+
+  -- unmarked, the words have the heap of the base; marked, all of them have one heap
+  pub pages_unmarked : (op owner : ℕ) (xs : List ℕ) → IsAt base (pages_allocation r) op 0 owner xs → SameHeap base xs
+  pages_unmarked op owner xs at = record {
+    size = at.size;
+    pages = λ page. record {
+      descriptor = ⊎_elim
+          (λ (here : page ≡ r.first).
+          let first : descriptor_of base r.first ≡ 0 = ap (descriptor_of base) (omega arith) ∙ may.clean 0 may.run.some in
+          ap (descriptor_of xs) here ∙ page-head base xs r op 0 owner may.idle may.run at ∙ sym first ∙ sym (ap (descriptor_of base) here))
+          (λ apart. page-others base xs r op 0 owner may.idle may.run at page apart)
+          (cases_eq page r.first);
+      bitmap = λ small. page-bitmap base xs r op 0 owner may.idle may.run at page small;
+    };
+  }
+
+  pub pages_marked : (op now owner other : ℕ) (xs ys : List ℕ) → IsAt base (pages_allocation r) op (16 + r.pages) owner xs → IsAt base (pages_allocation r) now (16 + r.pages) other ys → SameHeap xs ys
+  pages_marked op now owner other xs ys x y = record {
+    size = y.size ∙ sym x.size;
+    pages = λ page. record {
+      descriptor = ⊎_elim
+          (λ (here : page ≡ r.first).
+          ap (descriptor_of ys) here ∙ page-head base ys r now (16 + r.pages) other may.idle may.run y
+          ∙ sym (ap (descriptor_of xs) here ∙ page-head base xs r op (16 + r.pages) owner may.idle may.run x))
+          (λ apart. page-others base ys r now (16 + r.pages) other may.idle may.run y page apart ∙ sym (page-others base xs r op (16 + r.pages) owner may.idle may.run x page apart))
+          (cases_eq page r.first);
+      bitmap = λ small.
+          let was = small_before op owner xs x page small in
+          page-bitmap base ys r now (16 + r.pages) other may.idle may.run y page was ∙ sym (page-bitmap base xs r op (16 + r.pages) owner may.idle may.run x page was);
+    };
   }
 
   keeps : KeepsElsewhere r.lane r.owner r.first r.pages base final

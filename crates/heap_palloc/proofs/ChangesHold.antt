@@ -1,18 +1,21 @@
 -- An allocation and a freeing hold what their changes say.
-use Rattle.std.proofs.Common.{◌≡◌, ◌≢◌, ℕ, ◌*◌, List}
+use Rattle.std.proofs.Common.{◌≡◌, ◌⊎◌, ℕ, ◌*◌, List, [], ◌∷◌}
 use Rattle.image_layout.specs.Pointer.{pointer_word}
 use Rattle.image_layout.specs.Blocks.{Block, slot_words, live_blocks}
 use Rattle.pm_model.specs.Changes.{HoldsOnWords}
-use Rattle.pm_model.specs.Plans.{Part, EachCut, finished}
+use Rattle.pm_model.specs.Plans.{Part, EachCut, finished, words_after}
+use Rattle.pm_model.proofs.Cuts.{each_cut-map}
 use Rattle.heap_small.specs.Bitmap.{with_bit}
 use Rattle.heap_palloc.specs.Lane.{mended_lane}
 use Rattle.heap_palloc.specs.Parts.{Allocation}
 use Rattle.heap_palloc.specs.Law.{Shows, Allocates, Frees, slot_allocation, taking, taken, pages_allocation}
 use Rattle.heap_palloc.specs.Calls.{KeepsHeapRules, OwnsBlock}
-use Rattle.heap_palloc.specs.Choice.{Choice, in_page, on_new_page, in_run, choice_parts, choice_block, MayMake, Freed, of_slot, of_pages, freed_parts, freed_block, MayRelease}
-use Rattle.heap_palloc.specs.Changes.{allocation, freeing, choice_owner, IsBeside, IsBesideFreed, allocated_words, released_words, ShowsAllocation, EndsAllocation, ShowsRelease, EndsRelease}
+use Rattle.heap_palloc.specs.Choice.{Choice, in_page, on_new_page, in_run, choice_parts, choice_block, MayMake, Freed, of_slot, of_pages, freed_parts, MayRelease}
+use Rattle.heap_palloc.specs.Changes.{allocation, freeing, choice_lane, freed_lane, IsUnmade, IsMade, IsHeld, IsLetGo, choice_owner, IsBeside, IsOther, allocated_words, released_words, ShowsAllocation, EndsAllocation, ShowsRelease, EndsRelease}
 use Rattle.heap_palloc.proofs.Stages.{mended-idle}
 use Rattle.heap_palloc.proofs.Changes.{change_settles}
+use Rattle.heap_palloc.proofs.ChoiceStages.{IsStaged, choice_staged}
+use Rattle.heap_palloc.proofs.FreedStages.{IsFreedStaged, freed_staged}
 use Rattle.heap_palloc.proofs.Choices.{choice_plan, choice_allocates, freed_plan, freed_frees}
 use Rattle.heap_palloc.proofs.RulesKept.{choice_rules, freed_rules}
 use Rattle.heap_palloc.proofs.Owners.{allocation_gives, allocation_keeps, freeing_keeps}
@@ -20,10 +23,25 @@ use Rattle.heap_palloc.proofs.Rereading.{choice_stable, freed_stable}
 
 -- ── an allocation ──
 
+-- what holds at each cut of two facts holds of both
+each_both : (P Q : List ℕ → Type 0) (parts : List Part) (words : List ℕ) → EachCut P parts words → EachCut Q parts words → EachCut (λ image. P image × Q image) parts words
+each_both P Q [] words p q = (p, q)
+each_both P Q (part ∷ parts) words p q = (λ image between. (p.0 image between, q.0 image between), each_both P Q parts (words_after part words) p.1 q.1)
+
+-- once its lane is mended
+abbrev IsMadeOrNot : List ℕ → Choice → List ℕ → Type 0
+IsMadeOrNot base choice image = IsUnmade base choice (mended_lane (choice_lane choice) image) ⊎ IsMade base choice (mended_lane (choice_lane choice) image)
+
+choice_mended : (choice : Choice) (base : List ℕ) → MayMake base choice → EachCut (IsMadeOrNot base choice) (choice_parts base choice) base
+choice_mended (in_page s) base may = (choice_allocates base (in_page s) may).changes.cuts
+choice_mended (on_new_page s) base may = (choice_allocates base (on_new_page s) may).changes.cuts
+choice_mended (in_run r) base may = (choice_allocates base (in_run r) may).changes.cuts
+
 choice_cuts : (choice : Choice) (base : List ℕ) → MayMake base choice → EachCut (ShowsAllocation choice base) (choice_parts base choice) base
-choice_cuts (in_page s) base may = (choice_allocates base (in_page s) may).changes.cuts
-choice_cuts (on_new_page s) base may = (choice_allocates base (on_new_page s) may).changes.cuts
-choice_cuts (in_run r) base may = (choice_allocates base (in_run r) may).changes.cuts
+choice_cuts choice base may =
+    each_cut-map (λ image. IsStaged base choice image × IsMadeOrNot base choice image) (ShowsAllocation choice base) (choice_parts base choice) base
+    (λ image both. record { stage = both.0.stage; rules = both.0.rules; given_back = both.0.given_back; mended = both.1 })
+    (each_both (IsStaged base choice) (IsMadeOrNot base choice) (choice_parts base choice) base (choice_staged base choice may) (choice_mended choice base may))
 
 -- by its allocation, which each choice has
 module _ (a : Allocation) (page pages size : ℕ) (parts : List Part) (base : List ℕ) (allocates : Allocates a page pages size parts base) where
@@ -75,9 +93,18 @@ allocation_holds choice = record {
 
 -- ── a freeing ──
 
+abbrev IsHeldOrNot : List ℕ → Freed → List ℕ → Type 0
+IsHeldOrNot base freed image = IsHeld base freed (mended_lane (freed_lane freed) image) ⊎ IsLetGo base freed (mended_lane (freed_lane freed) image)
+
+freed_mended : (freed : Freed) (base : List ℕ) → MayRelease base freed → EachCut (IsHeldOrNot base freed) (freed_parts base freed) base
+freed_mended (of_slot s) base may = (freed_frees base (of_slot s) may).changes.cuts
+freed_mended (of_pages r) base may = (freed_frees base (of_pages r) may).changes.cuts
+
 freed_cuts : (freed : Freed) (base : List ℕ) → MayRelease base freed → EachCut (ShowsRelease freed base) (freed_parts base freed) base
-freed_cuts (of_slot s) base may = (freed_frees base (of_slot s) may).changes.cuts
-freed_cuts (of_pages r) base may = (freed_frees base (of_pages r) may).changes.cuts
+freed_cuts freed base may =
+    each_cut-map (λ image. IsFreedStaged base freed image × IsHeldOrNot base freed image) (ShowsRelease freed base) (freed_parts base freed) base
+    (λ image both. record { stage = both.0.stage; rules = both.0.rules; given_back = both.0.given_back; mended = both.1 })
+    (each_both (IsFreedStaged base freed) (IsHeldOrNot base freed) (freed_parts base freed) base (freed_staged base freed may) (freed_mended freed base may))
 
 module _ (a : Allocation) (page pages size : ℕ) (parts : List Part) (base : List ℕ) (frees : Frees a page pages size parts base) where
   ended_free : mended_lane a.lane (finished parts base) ≡ finished parts base
@@ -129,7 +156,7 @@ choice_keeps base (in_page s) dest block rules may out owns = allocation_keeps b
 choice_keeps base (on_new_page s) dest block rules may out owns = allocation_keeps base (on_new_page s) dest block rules may out owns
 choice_keeps base (in_run r) dest block rules may out owns = allocation_keeps base (in_run r) dest block rules may out owns
 
-pub freed_keeps : (base : List ℕ) (freed : Freed) (dest : ℕ) (block : Block) → KeepsHeapRules base → MayRelease base freed → IsBesideFreed freed dest
-    → block.first ≢ (freed_block freed).first → OwnsBlock base dest block → OwnsBlock (released_words base freed) dest block
-freed_keeps base (of_slot s) dest block rules may out apart owns = freeing_keeps base (of_slot s) dest block rules may out apart owns
-freed_keeps base (of_pages r) dest block rules may out apart owns = freeing_keeps base (of_pages r) dest block rules may out apart owns
+pub freed_keeps : (base : List ℕ) (freed : Freed) (dest : ℕ) (block : Block) → KeepsHeapRules base → MayRelease base freed → IsOther freed dest block
+    → OwnsBlock base dest block → OwnsBlock (released_words base freed) dest block
+freed_keeps base (of_slot s) dest block rules may other owns = freeing_keeps base (of_slot s) dest block rules may other.beside other.other owns
+freed_keeps base (of_pages r) dest block rules may other owns = freeing_keeps base (of_pages r) dest block rules may other.beside other.other owns

@@ -163,6 +163,10 @@ module _ (old new : List ℕ) (forgets : Forgets old new) where
       live_upto : ℕ → List Block
       live_upto n = flat_map (blocks_of_page old) (range_with_len 0 (n / 512))
 
+-- no page is given back that wasn't
+pub forgets_back : (old new : List ℕ) → Forgets old new → (page : ℕ) → descriptor_of new page ≡ 1 → descriptor_of old page ≡ 1
+forgets_back old new forgets page is = ⊎_elim (λ e. sym e ∙ is) (λ (z, one, low). one) (forgets.each (descriptor_at page))
+
 -- which pages are free, and which have room, stays
 module _ (old new : List ℕ) (forgets : Forgets old new) where
   pub forgets_free : (page : ℕ) → is_free_page new page ≡ is_free_page old page
@@ -186,7 +190,7 @@ module _ (base : List ℕ) (r : Pages) (may : MayTakeRun base r) where
   abbrev pub cleaned : List ℕ
   cleaned = words_after part base
 
-  image_forgets : (image : List ℕ) → IsBetween base cleaned image → Forgets base image
+  pub image_forgets : (image : List ℕ) → IsBetween base cleaned image → Forgets base image
   image_forgets image between = record {
     size = between.size;
     each = λ w. ⊎_elim (λ e. inl e) (λ e. ⊎_elim (λ k. inl (e ∙ k)) (λ (z, one, low). inr (e ∙ z, one, low)) (after-word base (range_with_len (page_of (page_at r.first)) r.pages) base w)) (between.each w);
@@ -195,16 +199,16 @@ module _ (base : List ℕ) (r : Pages) (may : MayTakeRun base r) where
   pub cleaned_forgets : Forgets base cleaned
   cleaned_forgets = image_forgets cleaned (record { size = length-words_after part base; each = λ w. inr refl })
 
-  keeps_forgotten : (image : List ℕ) → IsBetween base cleaned image → KeepsElsewhere r.lane r.owner r.first r.pages base image
+  pub keeps_forgotten : (image : List ℕ) → IsBetween base cleaned image → KeepsElsewhere r.lane r.owner r.first r.pages base image
   keeps_forgotten image between = record {
     size = between.size;
     each = λ w e. ⊎_elim (λ k. k) (λ k. k ∙ words_after-kept part base w (forget-out base r.pages (page_of (page_at r.first)) w (λ page x y. e.no_descriptor page (omega (arith, x)) (omega (arith, y))))) (between.each w);
   }
 
-  cleaned_between : IsBetween base cleaned cleaned
+  pub cleaned_between : IsBetween base cleaned cleaned
   cleaned_between = record { size = length-words_after part base; each = λ w. inr refl }
 
-  op_kept : (image : List ℕ) → Forgets base image → get_or image (lane_op_at r.lane) 0 ≡ 0
+  pub op_kept : (image : List ℕ) → Forgets base image → get_or image (lane_op_at r.lane) 0 ≡ 0
   op_kept image forgets = forgets-kept base image forgets (lane_op_at r.lane) (omega (arith, may.idle.lane_is)) ∙ may.idle.op
 
   shows_none : (image : List ℕ) → IsBetween base cleaned image → Shows r.lane r.owner r.first r.pages base (live_blocks base) 0 (mended_lane r.lane image)

@@ -5,9 +5,11 @@ pub mod BigPlans
 pub mod Changes
 pub mod ChangesHold
 pub mod Choices
+pub mod ChoiceStages
 pub mod Choosing
 pub mod Dests
 pub mod Forgetting
+pub mod FreedStages
 pub mod Freeing
 pub mod GivenBack
 pub mod Indexed
@@ -31,4 +33,5 @@ pub mod SlotCalls
 pub mod SlotPlans
 pub mod Slots
 pub mod Stages
+pub mod Staging
 pub mod Survival

@@ -17,7 +17,7 @@ use Rattle.heap_palloc.specs.Shown.{GainsOne}
 use Rattle.heap_palloc.specs.Law.{KeepsElsewhere, Shows, ChangesShown, Allocates, Frees, IsHeapPage, Slot, slot_block, slot_allocation, taking, taken, MayTakeSlot, MayTakeNewSlot, MayFreeSlot}
 use Rattle.pm_model.proofs.Cuts.{cut-one_store, finished-append}
 use Rattle.heap_palloc.proofs.Changes.{keeps-all, keeps-then, shows-idle, changes-front, changes-back, changes-origin}
-use Rattle.heap_palloc.proofs.LiveBlocks.{small_blocks, inside_from, is_inside-same, is_small_page-same, OnePage, live_blocks-same, live_blocks-kept, one_page-then, same_heap-one}
+use Rattle.heap_palloc.proofs.LiveBlocks.{small_blocks, inside_from, is_inside-same, is_small_page-same, OnePage, SameHeap, live_blocks-same, live_blocks-kept, one_page-then, same_heap-one}
 use Rattle.heap_palloc.proofs.Pages.{free_descriptor-blocks, small_blocks-zero, set_descriptor-one, set_descriptor-here, set_descriptor-bitmap, set_bitmap-same}
 use Rattle.heap_palloc.proofs.Slots.{descriptor_outside-lane, bitmap_outside-lane, small_page-blocks}
 use Rattle.heap_palloc.proofs.SlotPlans.{take_slot_allocates, take_one, take_bitmap, take_descriptor, slot_clear, free_one, free_words, free_bitmap, free_small, free_idle, free_keeps, free_slot_frees, free_owner}
@@ -34,14 +34,14 @@ module _ (base : List ℕ) (s : Slot) (may : MayFreeSlot base s) where
   abbrev page_freed : List ℕ
   page_freed = set freed (descriptor_at s.page) 0
 
-  page_freed-blocks : clear ≡ 0 → live_blocks page_freed ≡ live_blocks freed
+  pub page_freed-blocks : clear ≡ 0 → live_blocks page_freed ≡ live_blocks freed
   page_freed-blocks zero =
       let small = free_small base s may in
       live_blocks-kept freed page_freed s.page (set_descriptor-one freed s.page small.page_is 0 (omega (arith, small.descriptor, small.class_is)))
       (free_descriptor-blocks page_freed s.page (omega (arith, set_descriptor-here freed s.page small.page_is 0))
       ∙ sym (small_page-blocks freed s.page small.small ∙ ap (small_blocks s.page (class_of freed s.page)) (free_bitmap base s may ∙ zero) ∙ small_blocks-zero s.page (class_of freed s.page)))
 
-  page_freed-kept : (w : ℕ) → w ≢ descriptor_at s.page → get_or page_freed w 0 ≡ get_or freed w 0
+  pub page_freed-kept : (w : ℕ) → w ≢ descriptor_at s.page → get_or page_freed w 0 ≡ get_or freed w 0
   page_freed-kept w apart = get_or-set_other freed (descriptor_at s.page) w 0 0 apart
 
   abbrev ShowsFreed : List Block → List ℕ → Type 0
@@ -124,6 +124,12 @@ module _ (base : List ℕ) (s : Slot) (may : MayTakeNewSlot base s) where
   not_small : is_small_page base s.page ≡ false
   not_small = and_right (not (is_inside base s.page)) (says_small (descriptor_of base s.page)) (and_left (leb 2 (descriptor_of base s.page)) (leb (descriptor_of base s.page) 7) (lt-leb 2 (descriptor_of base s.page) (omega (arith, is_low))))
 
+  pub blank_same : SameHeap base (set base (page_at s.page) 0)
+  blank_same = set_bitmap-same base s.page may.page_is 0 not_small
+
+  pub blank_descriptors : (page : ℕ) → descriptor_of (set base (page_at s.page) 0) page ≡ descriptor_of base page
+  blank_descriptors page = (blank_same.pages page).descriptor
+
   blank_page : IsHeapPage blank s.page
   blank_page = record { in_image = subst (λ (n : ℕ). s.page < n / 512) (sym (length-set base (page_at s.page) 0)) may.page_is.in_image; behind_header = may.page_is.behind_header; behind_fixed = may.page_is.behind_fixed }
 
@@ -133,10 +139,10 @@ module _ (base : List ℕ) (s : Slot) (may : MayTakeNewSlot base s) where
   blank_blocks : live_blocks blank ≡ live_blocks base
   blank_blocks = live_blocks-same base blank (set_bitmap-same base s.page may.page_is 0 not_small)
 
-  new_page_one : OnePage blank new_page_words s.page
+  pub new_page_one : OnePage blank new_page_words s.page
   new_page_one = set_descriptor-one blank s.page blank_page (2 + s.class) (omega (arith, may.class_is, blank_descriptor, is_low))
 
-  new_descriptor : descriptor_of new_page_words s.page ≡ 2 + s.class
+  pub new_descriptor : descriptor_of new_page_words s.page ≡ 2 + s.class
   new_descriptor = set_descriptor-here blank s.page blank_page (2 + s.class)
 
   pub new_bitmap : bitmap_of new_page_words s.page ≡ 0
@@ -155,28 +161,28 @@ module _ (base : List ℕ) (s : Slot) (may : MayTakeNewSlot base s) where
       ∙ sym (free_descriptor-blocks blank s.page (omega (arith, blank_descriptor, is_low))))
       ∙ blank_blocks
 
-  blank-kept : (w : ℕ) → w ≢ page_at s.page → get_or blank w 0 ≡ get_or base w 0
+  pub blank-kept : (w : ℕ) → w ≢ page_at s.page → get_or blank w 0 ≡ get_or base w 0
   blank-kept w apart = get_or-set_other base (page_at s.page) w 0 0 apart
 
-  new_page-kept : (w : ℕ) → w ≢ page_at s.page → w ≢ descriptor_at s.page → get_or new_page_words w 0 ≡ get_or base w 0
+  pub new_page-kept : (w : ℕ) → w ≢ page_at s.page → w ≢ descriptor_at s.page → get_or new_page_words w 0 ≡ get_or base w 0
   new_page-kept w x y = get_or-set_other blank (descriptor_at s.page) w (2 + s.class) 0 y ∙ blank-kept w x
 
-  blank_keeps : KeepsElsewhere s.lane s.owner s.page 1 base blank
+  pub blank_keeps : KeepsElsewhere s.lane s.owner s.page 1 base blank
   blank_keeps = record { size = length-set base (page_at s.page) 0; each = λ w e. blank-kept w e.no_bitmap }
 
-  new_page_keeps : KeepsElsewhere s.lane s.owner s.page 1 base new_page_words
+  pub new_page_keeps : KeepsElsewhere s.lane s.owner s.page 1 base new_page_words
   new_page_keeps = record { size = length-set blank (descriptor_at s.page) (2 + s.class) ∙ length-set base (page_at s.page) 0; each = λ w e. new_page-kept w e.no_bitmap (λ x. e.no_descriptor s.page (omega arith) (omega arith) x) }
 
-  op_a : lane_op_at s.lane ≢ page_at s.page
+  pub op_a : lane_op_at s.lane ≢ page_at s.page
   op_a e = (bitmap_outside-lane s.lane s.page may.idle.lane_is).0 (sym e)
 
-  op_b : lane_op_at s.lane ≢ descriptor_at s.page
+  pub op_b : lane_op_at s.lane ≢ descriptor_at s.page
   op_b e = (descriptor_outside-lane s.lane s.page may.idle.lane_is).0 (sym e)
 
-  owner_a : s.owner ≢ page_at s.page
+  pub owner_a : s.owner ≢ page_at s.page
   owner_a e = may.owner_elsewhere (omega (arith, e))
 
-  owner_b : s.owner ≢ descriptor_at s.page
+  pub owner_b : s.owner ≢ descriptor_at s.page
   owner_b e = omega (arith, e, may.idle.owner_is.no_descriptor)
 
   abbrev ShowsNone : List ℕ → Type 0

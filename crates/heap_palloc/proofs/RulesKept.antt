@@ -21,12 +21,12 @@ use Rattle.heap_palloc.specs.Parts.{allocation_parts, new_page_allocation_parts,
 use Rattle.heap_palloc.specs.Law.{IsHeapPage, IsSmallPage, Slot, slot_allocation, taking, taken, Pages, pages_allocation, MayTakeSlot, MayTakeNewSlot, MayTakeRun, MayFreeSlot, MayFreePages}
 use Rattle.heap_palloc.specs.Choice.{Choice, in_page, on_new_page, in_run, choice_parts, MayMake, Freed, of_slot, of_pages, freed_parts, MayRelease}
 use Rattle.heap_palloc.specs.Calls.{KeepsHeapRules}
-use Rattle.heap_palloc.proofs.LiveBlocks.{is_inside-same, OnePage}
+use Rattle.heap_palloc.proofs.LiveBlocks.{is_inside-same, OnePage, one_page-then, same_heap-one}
 use Rattle.heap_palloc.proofs.BigBlocks.{HeadsRun, inside_elsewhere, inside_run, no_small_new, old_low}
 use Rattle.heap_palloc.proofs.BigPlans.{take_heads, freed_heads}
 use Rattle.heap_palloc.proofs.GivenBack.{Forgets, cleaned, cleaned_forgets, cleaned_may, forgets_inside_same, forgets_bitmap_same, take_run_words}
 use Rattle.heap_palloc.proofs.SlotPlans.{take_one, take_bitmap, take_descriptor, slot_clear, free_words, free_one, free_bitmap, free_descriptor}
-use Rattle.heap_palloc.proofs.PagePlans.{new_page_words, new_slot_words, new_slot_one, new_slot_descriptor, new_slot_bitmap, page_freed_words, page_kept_words, page_freed_one, page_freed_descriptor}
+use Rattle.heap_palloc.proofs.PagePlans.{blank_same, new_page_one, new_descriptor, new_bitmap, new_page_words, new_slot_words, new_slot_one, new_slot_descriptor, new_slot_bitmap, page_freed_words, page_kept_words, page_freed_one, page_freed_descriptor}
 use Rattle.heap_palloc.proofs.Reindex.{low_small}
 
 -- ── the rules, page by page ──
@@ -127,6 +127,15 @@ take_slot_rules base s rules may =
     (kept_small final s.page s.class (not_reserved base s.page may.page_is.page_is) may.page_is.class_is (take_descriptor base s may ∙ may.page_is.descriptor)
     (subst (λ (b : ℕ). b < 2 ^ slots_of s.class) (sym (take_bitmap base s may)) (with_bit-fits (bitmap_of base s.page) s.slot (slots_of s.class) may.slot_is (own_fits base s.page s.class rules may.page_is))))
 
+pub new_page_rules : (base : List ℕ) (s : Slot) (may : MayTakeNewSlot base s) → KeepsHeapRules base → KeepsHeapRules (new_page_words base s may)
+new_page_rules base s may rules =
+    let small = new_page_words base s may in
+    let blank = set base (page_at s.page) 0 in
+    let one = one_page-then base blank small s.page (same_heap-one base blank s.page may.page_is.in_image (blank_same base s may)) (new_page_one base s may) in
+    rules_one base small s.page one rules
+    (kept_small small s.page s.class (not_reserved base s.page may.page_is) may.class_is (new_descriptor base s may)
+    (subst (λ (b : ℕ). b < 2 ^ slots_of s.class) (sym (new_bitmap base s may)) (zero_fits (slots_of s.class))))
+
 new_slot_rules : (base : List ℕ) (s : Slot) → KeepsHeapRules base → MayTakeNewSlot base s → KeepsHeapRules (finished (new_page_allocation_parts s.page s.class (slot_allocation s (with_bit 0 s.slot))) base)
 new_slot_rules base s rules may =
     let final = finished (allocation_parts (taking (new_page_words base s may) s)) (new_page_words base s may) in
@@ -134,15 +143,19 @@ new_slot_rules base s rules may =
     (kept_small final s.page s.class (not_reserved base s.page may.page_is) may.class_is (new_slot_descriptor base s may)
     (subst (λ (b : ℕ). b < 2 ^ slots_of s.class) (sym (new_slot_bitmap base s may)) (with_bit-fits 0 s.slot (slots_of s.class) may.slot_is (zero_fits (slots_of s.class))))))
 
+-- with its slot freed, and its page small still
+pub slot_freed_rules : (base : List ℕ) (s : Slot) → KeepsHeapRules base → (may : MayFreeSlot base s) → KeepsHeapRules (free_words base s may)
+slot_freed_rules base s rules may =
+    rules_one base (free_words base s may) s.page (free_one base s may) rules
+    (kept_small (free_words base s may) s.page s.class (not_reserved base s.page may.page_is.page_is) may.page_is.class_is (free_descriptor base s may ∙ may.page_is.descriptor)
+    (subst (λ (b : ℕ). b < 2 ^ slots_of s.class) (sym (free_bitmap base s may)) (without_bit-fits (bitmap_of base s.page) s.slot (slots_of s.class) may.slot_is (own_fits base s.page s.class rules may.page_is))))
+
 free_slot_rules : (base : List ℕ) (s : Slot) → KeepsHeapRules base → (may : MayFreeSlot base s) → KeepsHeapRules (finished (small_freeing_parts s.page (taken base s) (slot_clear base s may)) base)
 free_slot_rules base s rules may = ⊎_elim
     (λ (zero : slot_clear base s may ≡ 0). subst KeepsHeapRules (sym (page_freed_words base s may zero))
     (rules_one base (set (free_words base s may) (descriptor_at s.page) 0) s.page (page_freed_one base s may) rules
     (kept_low (set (free_words base s may) (descriptor_at s.page) 0) s.page (not_reserved base s.page may.page_is.page_is) (omega (arith, page_freed_descriptor base s may)))))
-    (λ some. subst KeepsHeapRules (sym (page_kept_words base s may some))
-    (rules_one base (free_words base s may) s.page (free_one base s may) rules
-    (kept_small (free_words base s may) s.page s.class (not_reserved base s.page may.page_is.page_is) may.page_is.class_is (free_descriptor base s may ∙ may.page_is.descriptor)
-    (subst (λ (b : ℕ). b < 2 ^ slots_of s.class) (sym (free_bitmap base s may)) (without_bit-fits (bitmap_of base s.page) s.slot (slots_of s.class) may.slot_is (own_fits base s.page s.class rules may.page_is))))))
+    (λ some. subst KeepsHeapRules (sym (page_kept_words base s may some)) (slot_freed_rules base s rules may))
     (cases_eq (slot_clear base s may) 0)
 
 -- ── runs ──
@@ -195,7 +208,7 @@ module _ (old new : List ℕ) (first pages : ℕ) (run : HeadsRun old new first 
       (rules_at new rules p (subst (λ (n : ℕ). p < n / 512) (sym run.size) within)))
       page lt)
 
-forgets_rules : (old new : List ℕ) → Forgets old new → KeepsHeapRules old → KeepsHeapRules new
+pub forgets_rules : (old new : List ℕ) → Forgets old new → KeepsHeapRules old → KeepsHeapRules new
 forgets_rules old new forgets rules = rules_from new (λ page lt.
     let was = rules_at old rules page (subst (λ (n : ℕ). page < n / 512) forgets.size lt) in
     ⊎_elim

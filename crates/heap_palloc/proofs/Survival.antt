@@ -1,22 +1,17 @@
--- The plans of the heap are plans, what they read, and what each image shows.
-use Rattle.std.proofs.Common.{◌⊎◌, ℕ, ◌+◌, ◌/◌, ◌<◌, Bool, true, false, cond, eqb, List, [], length, refl, sym, ◌∙◌, ap, subst, arith}
-use Rattle.std.specs.Prelude.{IsTrue}
+-- The plans of the heap are plans, and what they read.
+use Rattle.std.proofs.Common.{ℕ, ◌+◌, ◌/◌, ◌<◌, Bool, true, false, cond, eqb, List, [], length, refl, sym, ◌∙◌, ap, subst, arith}
 use Rattle.std.specs.Int.{bit_at}
 use Rattle.std.proofs.lemmas.Bool.{eqb-true, ne_eqb, or_from}
-use Rattle.pm_model.specs.declared.action.Action.{Action}
 use Rattle.image_layout.specs.Fixed.{descriptor_at, lane_op_at, lane_dest_at, lane_block_at}
 use Rattle.image_layout.specs.Pointer.{pointer_word}
 use Rattle.image_layout.specs.Places.{page_at}
-use Rattle.pm_model.specs.Device.{Device, IsClean}
-use Rattle.pm_model.specs.Plans.{plan_of, footprint, IsPart, IsPlan, Play, IsPlaying, IsCrashImageWithin, IsTakenBack, one_store}
-use Rattle.image_layout.specs.Blocks.{Block}
+use Rattle.pm_model.specs.Plans.{IsPart, IsPlan, one_store}
 use Rattle.pm_model.proofs.Cuts.{store_part, plan-append}
-use Rattle.pm_model.proofs.PlanLaw.{plan_survives_cuts, plan_ends, plan_ended_image}
 use Rattle.heap_small.specs.Bitmap.{with_bit}
-use Rattle.heap_palloc.specs.Lane.{mark_at, mended_lane}
+use Rattle.heap_palloc.specs.Lane.{mark_at}
 use Rattle.heap_palloc.specs.Parts.{Allocation, lane_part, allocation_parts, new_page_allocation_parts, freeing_parts, free_page_parts, small_freeing_parts}
 use Rattle.heap_palloc.specs.Shown.{IsPlaced}
-use Rattle.heap_palloc.specs.Law.{Shows, ChangesShown, IsHeapPage, IsSmallPage, Slot, slot_allocation, taking, taken, IsIdle, MayTakeSlot, MayTakeNewSlot, MayFreeSlot, SameRead}
+use Rattle.heap_palloc.specs.Law.{IsHeapPage, IsSmallPage, Slot, slot_allocation, taking, taken, IsIdle, MayTakeSlot, MayTakeNewSlot, MayFreeSlot, SameRead}
 use Rattle.heap_palloc.proofs.SlotPlans.{slot_placed, take_slot_may, free_slot_may, slot_clear}
 
 -- ── they are plans ──
@@ -108,21 +103,3 @@ module _ (old new : List ℕ) (s : Slot) (same : SameRead old new s) where
     slot_is = may.slot_is;
     set = ap (λ (b : ℕ). bit_at b s.slot) same.bitmap ∙ may.set;
   }
-
--- ── what each image shows ──
-
-module _ (lane owner page pages : ℕ) (origin : List ℕ) (before : List Block) (old : ℕ) (after : List Block) (new : ℕ) (play : Play) (d : Device) (image base : List ℕ) where
-  -- at each moment of the plan
-  pub change_survives : (n : ℕ) (left : List Action) → IsPlaying play n left d → IsCrashImageWithin play.own d image → IsTakenBack play image base → ChangesShown lane owner page pages origin before old after new play.parts base
-      → (Shows lane owner page pages origin before old (mended_lane lane image)) ⊎ (Shows lane owner page pages origin after new (mended_lane lane image))
-  change_survives n left playing left_by back change =
-      plan_survives_cuts (λ i. (Shows lane owner page pages origin before old (mended_lane lane i)) ⊎ (Shows lane owner page pages origin after new (mended_lane lane i))) play n left d image base playing left_by back change.cuts
-
-  -- and after its last action
-  pub change_stays : (n : ℕ) → IsPlaying play n [] d → IsCrashImageWithin play.own d image → IsTakenBack play image base → ChangesShown lane owner page pages origin before old after new play.parts base → Shows lane owner page pages origin after new (mended_lane lane image)
-  change_stays n playing left_by back change =
-      subst (λ (i : List ℕ). Shows lane owner page pages origin after new (mended_lane lane i)) (sym (plan_ended_image play n d image base playing left_by back)) change.ends
-
--- and the words that the plan wrote are clean
-pub ended_clean : (play : Play) (n : ℕ) (d : Device) → IsPlaying play n [] d → (w : ℕ) → IsTrue (footprint (plan_of play.parts) w) → IsClean d w
-ended_clean play n d playing w hit = (plan_ends play n d playing).clean w (playing.playable.within w hit)

@@ -1,8 +1,9 @@
 -- An allocation and a freeing as changes: what they read, what their cuts show, and their ends.
-use Rattle.std.specs.Prelude.{◌≡◌, ◌⊎◌, ℕ, ◌+◌, ◌<◌, List, length, slice_index}
+use Rattle.std.specs.Prelude.{◌≡◌, ◌≢◌, ◌⊎◌, ℕ, ◌+◌, ◌<◌, List, length, slice_index}
 use Rattle.pm_model.specs.Changes.{Change}
 use Rattle.pm_model.specs.Plans.{finished}
-use Rattle.image_layout.specs.Fixed.{lane_op_at}
+use Rattle.image_layout.specs.declared.layout.TheConstants.{ALLOCATING, FREEING, GIVEN_BACK, IDLE}
+use Rattle.image_layout.specs.Fixed.{lane_op_at, lane_dest_at, lane_block_at}
 use Rattle.image_layout.specs.Places.{page_of}
 use Rattle.image_layout.specs.Pointer.{pointer_word}
 use Rattle.image_layout.specs.Blocks.{Block, descriptor_of, is_inside, is_small_page, live_blocks}
@@ -32,6 +33,18 @@ SameChoiceRead (in_run r) old new = SameRunRead old new r
 abbrev pub SameFreedRead : Freed → List ℕ → List ℕ → Type 0
 SameFreedRead (of_slot s) old new = SameRead old new s
 SameFreedRead (of_pages r) old new = SameRunRead old new r
+
+-- ── what stages say ──
+
+-- What the lane of a plan is at work on, and while it is, which owner's word and which block it names.
+pub record IsLaneAt (lane owner block op : ℕ) (words : List ℕ) : Type 0 where
+  pub op_is : slice_index words (lane_op_at lane) ≡ op
+  pub owner_is : op ≢ IDLE → slice_index words (lane_dest_at lane) ≡ pointer_word owner
+  pub block_is : op ≢ IDLE → slice_index words (lane_block_at lane) ≡ pointer_word block
+
+-- each page that is given back was given back before
+abbrev pub IsNoneGivenBack : List ℕ → List ℕ → Type 0
+IsNoneGivenBack base words = (page : ℕ) → descriptor_of words page ≡ GIVEN_BACK → descriptor_of base page ≡ GIVEN_BACK
 
 -- ── an allocation ──
 
@@ -65,12 +78,34 @@ IsUnmade base choice words = ShowsMaking base choice (live_blocks base) 0 words
 
 -- the live blocks after it, and the owner's word names the new one
 abbrev pub IsMade : List ℕ → Choice → List ℕ → Type 0
-IsMade base choice words = ShowsMaking base choice (live_blocks (allocated_words base choice)) (pointer_word (choice_block choice).first) words
+IsMade base choice words = ShowsMaking base choice (live_blocks (allocated_words base choice))
+    (pointer_word (choice_block choice).first) words
 
--- what a cut of an allocation shows once its lane is mended
-abbrev pub ShowsAllocation : Choice → List ℕ → List ℕ → Type 0
-ShowsAllocation choice base image =
-    IsUnmade base choice (mended_lane (choice_lane choice) image) ⊎ IsMade base choice (mended_lane (choice_lane choice) image)
+-- the live blocks after it, and no word names the new one
+abbrev pub IsUnnamed : List ℕ → Choice → List ℕ → Type 0
+IsUnnamed base choice words = ShowsMaking base choice (live_blocks (allocated_words base choice)) 0 words
+
+abbrev pub IsChoiceLaneAt : Choice → ℕ → List ℕ → Type 0
+IsChoiceLaneAt choice op words =
+    IsLaneAt (choice_lane choice) (choice_owner choice) (choice_block choice).first op words
+
+-- The stages at which a cut can leave an allocation. Its lane isn't at work; it is, and the block has no mark; it has one,
+-- and no word names it; its owner's word names it; and the lane is idle again.
+pub data AllocationStage (base : List ℕ) (choice : Choice) (image : List ℕ) : Type 0 where
+  before : IsChoiceLaneAt choice IDLE image → IsUnmade base choice image → AllocationStage base choice image
+  logged : IsChoiceLaneAt choice ALLOCATING image → IsUnmade base choice image → AllocationStage base choice image
+  marked : IsChoiceLaneAt choice ALLOCATING image → IsUnnamed base choice image → AllocationStage base choice image
+  owned : IsChoiceLaneAt choice ALLOCATING image → IsMade base choice image → AllocationStage base choice image
+  made : IsChoiceLaneAt choice IDLE image → IsMade base choice image → AllocationStage base choice image
+
+-- What a cut of an allocation shows: as the cut left it one of the stages, where the heap's rules go on to hold and no page
+-- is given back that wasn't; and once the lane is mended the words before it or after it.
+pub record ShowsAllocation (choice : Choice) (base image : List ℕ) : Type 0 where
+  pub stage : AllocationStage base choice image
+  pub rules : KeepsHeapRules base → KeepsHeapRules image
+  pub given_back : IsNoneGivenBack base image
+  pub mended : IsUnmade base choice (mended_lane (choice_lane choice) image)
+      ⊎ IsMade base choice (mended_lane (choice_lane choice) image)
 
 -- What the words after an allocation show: one live block more, whose pointer the owner's word holds. The lane is idle, so
 -- that mending it leaves them, and the heap's rules hold as before.
@@ -109,6 +144,11 @@ released_words base freed = finished (freed_parts base freed) base
 abbrev pub IsBesideFreed : Freed → ℕ → Type 0
 IsBesideFreed freed w = IsElsewhere (freed_lane freed) (freed_owner freed) (freed_page freed) (freed_pages freed) w
 
+-- it doesn't write the word, and the block isn't the one that it frees
+pub record IsOther (freed : Freed) (w : ℕ) (block : Block) : Type 0 where
+  pub beside : IsBesideFreed freed w
+  pub other : block.first ≢ (freed_block freed).first
+
 -- words show these live blocks, and this as the owner's word; each word beside the freeing is that of the base
 abbrev pub ShowsFreeing : List ℕ → Freed → List Block → ℕ → List ℕ → Type 0
 ShowsFreeing base freed blocks word words =
@@ -122,10 +162,30 @@ IsHeld base freed words = ShowsFreeing base freed (live_blocks base) (pointer_wo
 abbrev pub IsLetGo : List ℕ → Freed → List ℕ → Type 0
 IsLetGo base freed words = ShowsFreeing base freed (live_blocks (released_words base freed)) 0 words
 
--- what a cut of a freeing shows once its lane is mended
-abbrev pub ShowsRelease : Freed → List ℕ → List ℕ → Type 0
-ShowsRelease freed base image =
-    IsHeld base freed (mended_lane (freed_lane freed) image) ⊎ IsLetGo base freed (mended_lane (freed_lane freed) image)
+-- the live blocks before it, and no word names the block
+abbrev pub IsDisowned : List ℕ → Freed → List ℕ → Type 0
+IsDisowned base freed words = ShowsFreeing base freed (live_blocks base) 0 words
+
+abbrev pub IsFreedLaneAt : Freed → ℕ → List ℕ → Type 0
+IsFreedLaneAt freed op words = IsLaneAt (freed_lane freed) (freed_owner freed) (freed_block freed).first op words
+
+-- The stages at which a cut can leave a freeing. Its lane isn't at work; it is, and the owner's word names the block; no word
+-- names it; it has no mark; and the lane is idle again.
+pub data FreeingStage (base : List ℕ) (freed : Freed) (image : List ℕ) : Type 0 where
+  held : IsFreedLaneAt freed IDLE image → IsHeld base freed image → FreeingStage base freed image
+  noted : IsFreedLaneAt freed FREEING image → IsHeld base freed image → FreeingStage base freed image
+  disowned : IsFreedLaneAt freed FREEING image → IsDisowned base freed image → FreeingStage base freed image
+  unmarked : IsFreedLaneAt freed FREEING image → IsLetGo base freed image → FreeingStage base freed image
+  let_go : IsFreedLaneAt freed IDLE image → IsLetGo base freed image → FreeingStage base freed image
+
+-- What a cut of a freeing shows: as the cut left it one of the stages, where the heap's rules go on to hold and no page is
+-- given back that wasn't; and once the lane is mended the words before it or after it.
+pub record ShowsRelease (freed : Freed) (base image : List ℕ) : Type 0 where
+  pub stage : FreeingStage base freed image
+  pub rules : KeepsHeapRules base → KeepsHeapRules image
+  pub given_back : IsNoneGivenBack base image
+  pub mended : IsHeld base freed (mended_lane (freed_lane freed) image)
+      ⊎ IsLetGo base freed (mended_lane (freed_lane freed) image)
 
 -- What the words after a freeing show: one live block less, and the owner's word null. The lane is idle, so that mending it
 -- leaves them, and the heap's rules hold as before.

@@ -57,16 +57,25 @@ MayMake words (in_page s) = MayTakeSlot words s
 MayMake words (on_new_page s) = MayTakeNewSlot words s
 MayMake words (in_run r) = MayTakeRun words r
 
+-- of the runs, the best fit for so many pages begins at this one
+abbrev pub IsBestFit : List Run → ℕ → ℕ → Type 0
+IsBestFit runs pages first = (left : List Run) × TakesBestFit runs pages (record { first = first; pages = pages }) left
+
+-- the lowest small page of the class that has a free slot
+abbrev pub IsFirstWithRoom : List ℕ → ℕ → ℕ → Type 0
+IsFirstWithRoom words class page = (rest : List ℕ) × (pages_with_room words class ≡ page ∷ rest)
+
 -- Where a request for so many words goes. Up to 256 it takes the least class that holds them: the least free slot of the
 -- lowest small page of the class that has one, and where there is none the first slot of a page of the best fit. Above
 -- that it takes the least number of pages that holds them, of the best fit.
 abbrev pub IsChosen : List ℕ → List Run → ℕ → Choice → Type 0
 IsChosen words runs count (in_page s) =
-    (count ≤ 256) × (s.class ≡ class_for count) × ((rest : List ℕ) × (pages_with_room words s.class ≡ s.page ∷ rest)) × IsFirstClear (bitmap_of words s.page) s.slot
+    (count ≤ 256) × (s.class ≡ class_for count)
+    × IsFirstWithRoom words s.class s.page × IsFirstClear (bitmap_of words s.page) s.slot
 IsChosen words runs count (on_new_page s) =
-    (count ≤ 256) × (s.class ≡ class_for count) × (pages_with_room words s.class ≡ []) × ((left : List Run) × TakesBestFit runs 1 (record { first = s.page; pages = 1 }) left) × (s.slot ≡ 0)
-IsChosen words runs count (in_run r) =
-    (256 < count) × (r.pages ≡ pages_for count) × ((left : List Run) × TakesBestFit runs r.pages (record { first = r.first; pages = r.pages }) left)
+    (count ≤ 256) × (s.class ≡ class_for count)
+    × (pages_with_room words s.class ≡ []) × IsBestFit runs 1 s.page × (s.slot ≡ 0)
+IsChosen words runs count (in_run r) = (256 < count) × (r.pages ≡ pages_for count) × IsBestFit runs r.pages r.first
 
 -- how many neighbouring free pages a request needs where no slot is free
 abbrev pub needed_pages : ℕ → ℕ
@@ -93,7 +102,8 @@ pages_named words lane owner =
 
 abbrev pub freed_named : List ℕ → ℕ → ℕ → Freed
 freed_named words lane owner =
-    if is_big_place (place_in (slice_index words owner)) then of_pages (pages_named words lane owner) else of_slot (slot_named words lane owner)
+    if is_big_place (place_in (slice_index words owner)) then of_pages (pages_named words lane owner)
+    else of_slot (slot_named words lane owner)
 
 -- the parts of its plan
 abbrev pub freed_parts : List ℕ → Freed → List (List Action)

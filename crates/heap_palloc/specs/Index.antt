@@ -20,7 +20,8 @@ is_full class bitmap = list_all (λ slot. bit_at bitmap slot == 1) (below (slots
 
 -- a small page of the class with a free slot
 abbrev pub has_room : List ℕ → ℕ → ℕ → Bool
-has_room words class page = is_small_page words page && ((class_of words page == class) && not (is_full class (bitmap_of words page)))
+has_room words class page = is_small_page words page
+    && ((class_of words page == class) && not (is_full class (bitmap_of words page)))
 
 -- all such pages, in ascending place
 unfoldable pub pages_with_room : List ℕ → ℕ → List ℕ

@@ -20,7 +20,8 @@ unmarked block descriptor mark = (if is_big_place block then 0 else without_bit 
 -- the words with the block's mark cleared
 abbrev pub released : ℕ → List ℕ → List ℕ
 released block words =
-    slice_set words (mark_at block) (unmarked block (slice_index words (descriptor_at (page_of block))) (slice_index words (mark_at block)))
+    slice_set words (mark_at block)
+    (unmarked block (slice_index words (descriptor_at (page_of block))) (slice_index words (mark_at block)))
 
 -- an allocation is undone where the owner's word hasn't got the block
 abbrev pub undone : ℕ → ℕ → List ℕ → List ℕ
@@ -36,4 +37,5 @@ mended_by lane op owner block words =
 -- the words after the lane is mended
 unfoldable pub mended_lane : ℕ → List ℕ → List ℕ
 mended_lane lane words =
-    mended_by lane (slice_index words (lane_op_at lane)) (place_in (slice_index words (lane_dest_at lane))) (slice_index words (lane_block_at lane)) words
+    mended_by lane (slice_index words (lane_op_at lane)) (place_in (slice_index words (lane_dest_at lane)))
+    (slice_index words (lane_block_at lane)) words

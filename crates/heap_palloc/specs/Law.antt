@@ -26,26 +26,31 @@ pub record KeepsElsewhere (lane owner page pages : ℕ) (old new : List ℕ) : T
   pub each : (w : ℕ) → IsElsewhere lane owner page pages w → slice_index new w ≡ slice_index old w
 
 -- the words show these live blocks and this as the owner's word, and elsewhere they are those of the origin
-pub record Shows (lane owner page pages : ℕ) (origin : List ℕ) (blocks : List Block) (word : ℕ) (words : List ℕ) : Type 0 where
+pub record Shows (lane owner page pages : ℕ) (origin : List ℕ) (blocks : List Block) (word : ℕ)
+    (words : List ℕ) : Type 0 where
   pub blocks_are : live_blocks words ≡ blocks
   pub word_is : slice_index words owner ≡ word
   pub keeps : KeepsElsewhere lane owner page pages origin words
 
 -- Mended, each image of the plan shows what stood before or what stands after, and from its end on what stands after.
-pub record ChangesShown (lane owner page pages : ℕ) (origin : List ℕ) (before : List Block) (old : ℕ) (after : List Block) (new : ℕ) (parts : List (List Action)) (base : List ℕ) : Type 0 where
-  pub cuts : EachCut (λ image. Shows lane owner page pages origin before old (mended_lane lane image) ⊎ Shows lane owner page pages origin after new (mended_lane lane image)) parts base
+pub record ChangesShown (lane owner page pages : ℕ) (origin : List ℕ) (before : List Block) (old : ℕ)
+    (after : List Block) (new : ℕ) (parts : List (List Action)) (base : List ℕ) : Type 0 where
+  pub cuts : EachCut (λ image. Shows lane owner page pages origin before old (mended_lane lane image)
+      ⊎ Shows lane owner page pages origin after new (mended_lane lane image)) parts base
   pub ends : Shows lane owner page pages origin after new (mended_lane lane (finished parts base))
   pub idle : slice_index (finished parts base) (lane_op_at lane) ≡ 0
 
 -- an allocation in so many pages from one on: no block and 0, or the block and its pointer
 pub record Allocates (a : Allocation) (page pages size : ℕ) (parts : List (List Action)) (base : List ℕ) : Type 0 where
   pub gains : GainsOne (live_blocks base) (record { first = a.block; words = size }) (live_blocks (finished parts base))
-  pub changes : ChangesShown a.lane a.owner page pages base (live_blocks base) 0 (live_blocks (finished parts base)) (pointer_word a.block) parts base
+  pub changes : ChangesShown a.lane a.owner page pages base (live_blocks base) 0 (live_blocks (finished parts base))
+      (pointer_word a.block) parts base
 
 -- a freeing: the block and its pointer, or no block and 0
 pub record Frees (a : Allocation) (page pages size : ℕ) (parts : List (List Action)) (base : List ℕ) : Type 0 where
   pub loses : GainsOne (live_blocks (finished parts base)) (record { first = a.block; words = size }) (live_blocks base)
-  pub changes : ChangesShown a.lane a.owner page pages base (live_blocks base) (pointer_word a.block) (live_blocks (finished parts base)) 0 parts base
+  pub changes : ChangesShown a.lane a.owner page pages base (live_blocks base) (pointer_word a.block)
+      (live_blocks (finished parts base)) 0 parts base
 
 -- A word can be an owner's: it is none of a lane, no descriptor, and not the bitmap of a small page.
 pub record IsOwnerPlace (words : List ℕ) (owner : ℕ) : Type 0 where
@@ -75,13 +80,21 @@ pub record Slot : Type 0 where
   pub class : ℕ
   pub slot : ℕ
 
+abbrev pub slot_by : ℕ → ℕ → ℕ → ℕ → ℕ → Slot
+slot_by lane owner page class slot = record { lane = lane; owner = owner; page = page; class = class; slot = slot }
+
 -- its block
 abbrev pub slot_block : ℕ → ℕ → ℕ → Block
 slot_block page class slot = record { first = slot_at page class slot; words = slot_words class }
 
 -- its allocation, after which the page has this bitmap
 abbrev pub slot_allocation : Slot → ℕ → Allocation
-slot_allocation s marked = record { lane = s.lane; owner = s.owner; block = slot_at s.page s.class s.slot; marked = marked }
+slot_allocation s marked = record {
+  lane = s.lane;
+  owner = s.owner;
+  block = slot_at s.page s.class s.slot;
+  marked = marked;
+}
 
 -- the allocation of a slot that is free, and of one that is taken
 abbrev pub taking : List ℕ → Slot → Allocation
@@ -129,6 +142,9 @@ pub record Pages : Type 0 where
   pub owner : ℕ
   pub first : ℕ
   pub pages : ℕ
+
+abbrev pub pages_by : ℕ → ℕ → ℕ → ℕ → Pages
+pages_by lane owner first pages = record { lane = lane; owner = owner; first = first; pages = pages }
 
 abbrev pub pages_allocation : Pages → Allocation
 pages_allocation r = record { lane = r.lane; owner = r.owner; block = page_at r.first; marked = 16 + r.pages }

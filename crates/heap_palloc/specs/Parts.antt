@@ -17,7 +17,8 @@ pub record Allocation : Type 0 where
 
 -- the lane gets the owner and the block
 abbrev pub lane_part : Allocation → List Action
-lane_part a = store (lane_dest_at a.lane) (pointer_word a.owner) ∷ store (lane_block_at a.lane) (pointer_word a.block) ∷ []
+lane_part a = store (lane_dest_at a.lane) (pointer_word a.owner) ∷ store (lane_block_at a.lane) (pointer_word a.block)
+    ∷ []
 
 -- an allocation: the lane, then under its log the mark and the owner's word
 abbrev pub allocation_parts : Allocation → List (List Action)
@@ -44,7 +45,8 @@ forget_given_back words pages =
 
 -- a big block of so many pages
 abbrev pub big_allocation_parts : List ℕ → ℕ → Allocation → List (List Action)
-big_allocation_parts words pages a = unless_empty (forget_given_back words (range_with_len (page_of a.block) pages)) ++ allocation_parts a
+big_allocation_parts words pages a =
+    unless_empty (forget_given_back words (range_with_len (page_of a.block) pages)) ++ allocation_parts a
 
 -- a freeing: the lane, then under its log the owner's word and the mark
 abbrev pub freeing_parts : Allocation → ℕ → List (List Action)

@@ -27,7 +27,8 @@ pub record IsAt (base : List ℕ) (a : Allocation) (op mark owner : ℕ) (words 
   pub lane_block : slice_index words (lane_block_at a.lane) ≡ pointer_word a.block
   pub mark_is : slice_index words (mark_at a.block) ≡ mark
   pub owner_is : slice_index words a.owner ≡ owner
-  pub others : (w : ℕ) → IsOutsideLane a.lane w → w ≢ mark_at a.block → w ≢ a.owner → slice_index words w ≡ slice_index base w
+  pub others : (w : ℕ) → IsOutsideLane a.lane w → w ≢ mark_at a.block → w ≢ a.owner
+      → slice_index words w ≡ slice_index base w
 
 -- The words of an allocation stand in the image, and no two of them are one word. It reads the descriptor of the
 -- block's page, which isn't the owner's word nor one of a lane.
@@ -66,6 +67,7 @@ pub record MayFree (words : List ℕ) (a : Allocation) (clear : ℕ) : Type 0 wh
 
 -- Mended at the lane, each image of a plan shows the words before it or those after it, and its end shows those after it.
 pub record IsAtomic (lane : ℕ) (parts : List (List Action)) (base : List ℕ) : Type 0 where
-  pub cuts : EachCut (λ image. SameButLane lane base (mended_lane lane image) ⊎ SameButLane lane (finished parts base) (mended_lane lane image)) parts base
+  pub cuts : EachCut (λ image. SameButLane lane base (mended_lane lane image)
+      ⊎ SameButLane lane (finished parts base) (mended_lane lane image)) parts base
   pub idle : slice_index (finished parts base) (lane_op_at lane) ≡ 0
   pub ends : mended_lane lane (finished parts base) ≡ finished parts base

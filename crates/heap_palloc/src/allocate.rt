@@ -2,13 +2,10 @@
 ghost use Rattle.std.specs.Prelude.{◌≡◌, ◌⊎◌, ◌+◌, ◌*◌, ◌<◌, ◌≤◌, ◌++◌, [], ◌∷◌, ℕ, List, IfOk, IfErr, OnErr, length, slice_index};
 ghost use Rattle.image_layout.specs.Blocks.{bitmap_of, class_for, longest_free_run, pages_for};
 ghost use Rattle.pm_model.specs.Plans.{plan_of, unless_empty};
-ghost use Rattle.heap_small.specs.Bitmap.{IsFirstClear};
-ghost use Rattle.heap_big.specs.declared.run.Run.{Run};
-ghost use Rattle.heap_big.specs.Fit.{TakesBestFit};
 ghost use Rattle.heap_palloc.specs.declared.error.AllocError.TheVariants.{Full, NoMemory as OutOfMemory};
 ghost use Rattle.heap_palloc.specs.Index.{rooms_of, pages_with_room};
-ghost use Rattle.heap_palloc.specs.Choice.{in_page, on_new_page, in_run, needed_pages};
-ghost use Rattle.heap_palloc.specs.Calls.{MayCall, IsPlanned, IsAllocated, IsFull};
+ghost use Rattle.heap_palloc.specs.Choice.{needed_pages};
+ghost use Rattle.heap_palloc.specs.Calls.{MayCall, IsAllocated, IsFull, IsNewSlotPlanned, IsRunPlanned, IsSlotPlanned};
 
 use crate::block::{Block, slot_block};
 use crate::error::AllocError;
@@ -42,10 +39,12 @@ pub fn plan_allocate<M: Memory>(
     requires most { words ≤ 32256 }
 
     ensures allocated { IfOk result (λ made.
-        IsAllocated (M.device mem.now).cached heap.old heap.new lane dest.0 words made.0.left made.1.first.0 made.1.words) }
+        IsAllocated (M.device mem.now).cached heap.old heap.new lane dest.0 words made.0.left
+        made.1.first.0 made.1.words) }
 
     ensures full { IfErr result (λ error. (error ≡ OutOfMemory)
-        ⊎ (IsFull (M.device mem.now).cached words × (error ≡ Full (needed_pages words) (longest_free_run (M.device mem.now).cached)))) }
+        ⊎ (IsFull (M.device mem.now).cached words
+        × (error ≡ Full (needed_pages words) (longest_free_run (M.device mem.now).cached)))) }
     ensures room { IfOk result (λ _. IsFull (M.device mem.now).cached words → ⊥) }
     ensures unchanged { OnErr result (heap.new ≡ heap.old) }
 {
@@ -72,8 +71,8 @@ fn take_slot<M: Memory>(
     requires empty { slice_index (M.device mem.now).cached dest.0 ≡ 0 }
     requires class { class < 6 }
     requires room { (rest : List ℕ) × (rooms_of heap.old class ≡ page ∷ rest) }
-    ensures planned { IfOk result (λ made. (slot : ℕ) × IsFirstClear (bitmap_of (M.device mem.now).cached page) slot
-        × IsPlanned (M.device mem.now).cached heap.new (in_page (record { lane = lane; owner = dest.0; page = page; class = class; slot = slot })) made.0.left made.1.first.0 made.1.words) }
+    ensures planned { IfOk result (λ made. IsSlotPlanned (M.device mem.now).cached heap.new lane dest.0 page class
+        made.0.left made.1.first.0 made.1.words) }
     ensures unchanged { OnErr result (heap.new ≡ heap.old) }
 {
     let bitmap = mem.load(Place(PAGE_WORDS * u32::from(page)));
@@ -101,10 +100,12 @@ fn take_new_page<M: Memory>(
     requires empty { slice_index (M.device mem.now).cached dest.0 ≡ 0 }
     requires class { class < 6 }
     requires room { rooms_of heap.old class ≡ [] }
-    ensures planned { IfOk result (λ made. (page : ℕ) × ((left : List Run) × TakesBestFit heap.old.free.runs 1 (record { first = page; pages = 1 }) left)
-        × IsPlanned (M.device mem.now).cached heap.new (on_new_page (record { lane = lane; owner = dest.0; page = page; class = class; slot = 0 })) made.0.left made.1.first.0 made.1.words) }
+    ensures planned { IfOk result (λ made.
+        IsNewSlotPlanned (M.device mem.now).cached heap.old.free.runs heap.new lane dest.0 class
+        made.0.left made.1.first.0 made.1.words) }
     ensures full { IfErr result (λ error. (error ≡ OutOfMemory)
-        ⊎ ((longest_free_run (M.device mem.now).cached < 1) × (error ≡ Full 1 (longest_free_run (M.device mem.now).cached)))) }
+        ⊎ ((longest_free_run (M.device mem.now).cached < 1)
+        × (error ≡ Full 1 (longest_free_run (M.device mem.now).cached)))) }
     ensures unchanged { OnErr result (heap.new ≡ heap.old) }
 {
     let mut plan = Plan::with_room(alloc, NEW_PAGE_ACTIONS + ALLOCATION_ACTIONS)?;
@@ -131,10 +132,12 @@ fn take_pages<M: Memory>(
     requires empty { slice_index (M.device mem.now).cached dest.0 ≡ 0 }
     requires some { 0 < pages }
     requires most { pages ≤ 63 }
-    ensures planned { IfOk result (λ made. (first : ℕ) × ((left : List Run) × TakesBestFit heap.old.free.runs pages (record { first = first; pages = pages }) left)
-        × IsPlanned (M.device mem.now).cached heap.new (in_run (record { lane = lane; owner = dest.0; first = first; pages = pages })) made.0.left made.1.first.0 made.1.words) }
+    ensures planned { IfOk result (λ made.
+        IsRunPlanned (M.device mem.now).cached heap.old.free.runs heap.new lane dest.0 pages
+        made.0.left made.1.first.0 made.1.words) }
     ensures full { IfErr result (λ error. (error ≡ OutOfMemory)
-        ⊎ ((longest_free_run (M.device mem.now).cached < pages) × (error ≡ Full pages (longest_free_run (M.device mem.now).cached)))) }
+        ⊎ ((longest_free_run (M.device mem.now).cached < pages)
+        × (error ≡ Full pages (longest_free_run (M.device mem.now).cached)))) }
     ensures unchanged { OnErr result (heap.new ≡ heap.old) }
 {
     let mut plan = Plan::with_room(alloc, 2 * pages + 1 + ALLOCATION_ACTIONS)?;

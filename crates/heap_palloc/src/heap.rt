@@ -90,7 +90,8 @@ impl Heap {
         ensures well_formed { IsWellFormed self.new.free }
         ensures page_count { self.new.free.page_count ≡ self.old.free.page_count }
         ensures rooms { self.new.rooms ≡ self.old.rooms }
-        ensures full { IfErr result (λ error. (largest : ℕ) × IsGreatest self.old.free.runs largest × (largest < pages) × (error ≡ Full pages largest)) }
+        ensures full { IfErr result (λ error.
+            (largest : ℕ) × IsGreatest self.old.free.runs largest × (largest < pages) × (error ≡ Full pages largest)) }
         ensures unchanged { OnErr result (self.new ≡ self.old) }
     {
         match self.runs.take(pages) {

@@ -6,13 +6,15 @@ ghost use Rattle.image_layout.specs.Fresh.{fresh_words};
 ghost use Rattle.heap_palloc.specs.Parts.{Allocation, allocation_parts, freeing_parts};
 ghost use Rattle.heap_palloc.specs.Shown.{MayAllocate, MayFree, IsAtomic};
 ghost use Rattle.heap_palloc.specs.Calls.{KeepsHeapRules, OwnsBlock};
-ghost use Rattle.heap_palloc.specs.Choice.{Choice, choice_block, MayMake, Freed, freed_block, MayRelease};
-ghost use Rattle.heap_palloc.specs.Changes.{allocation, freeing, choice_owner, IsBeside, IsBesideFreed, allocated_words, released_words};
+ghost use Rattle.heap_palloc.specs.Choice.{Choice, choice_block, MayMake, Freed, MayRelease};
+ghost use Rattle.heap_palloc.specs.Changes.{allocation, freeing, choice_owner, IsBeside, IsOther, allocated_words, released_words};
 
 /// A law for proofs: by words, the log of a lane makes an allocation and a freeing atomic.
 pub fn lane_law()
-    ensures allocation { (base : List ℕ) (a : Allocation) → MayAllocate base a → IsAtomic a.lane (allocation_parts a) base }
-    ensures freeing { (base : List ℕ) (a : Allocation) (clear : ℕ) → MayFree base a clear → IsAtomic a.lane (freeing_parts a clear) base }
+    ensures allocation { (base : List ℕ) (a : Allocation) → MayAllocate base a →
+        IsAtomic a.lane (allocation_parts a) base }
+    ensures freeing { (base : List ℕ) (a : Allocation) (clear : ℕ) → MayFree base a clear →
+        IsAtomic a.lane (freeing_parts a clear) base }
 {}
 
 /// A law for proofs: an allocation, whichever way it goes. Once its lane is mended, each cut shows the live blocks before it
@@ -55,10 +57,12 @@ pub fn owners_law()
         MayMake base choice → OwnsBlock (allocated_words base choice) (choice_owner choice) (choice_block choice) }
     ensures new { (base : List ℕ) (choice : Choice) (block : Block) →
         MayMake base choice → Contains (live_blocks base) block → block.first ≢ (choice_block choice).first }
-    ensures keeps { (base : List ℕ) (choice : Choice) (w : ℕ) (block : Block) → KeepsHeapRules base → MayMake base choice →
-        IsBeside choice w → OwnsBlock base w block → OwnsBlock (allocated_words base choice) w block }
-    ensures keeps_others { (base : List ℕ) (freed : Freed) (w : ℕ) (block : Block) → KeepsHeapRules base → MayRelease base freed →
-        IsBesideFreed freed w → block.first ≢ (freed_block freed).first → OwnsBlock base w block → OwnsBlock (released_words base freed) w block }
+    ensures keeps { (base : List ℕ) (choice : Choice) (w : ℕ) (block : Block) →
+        KeepsHeapRules base → MayMake base choice → IsBeside choice w → OwnsBlock base w block →
+        OwnsBlock (allocated_words base choice) w block }
+    ensures keeps_others { (base : List ℕ) (freed : Freed) (w : ℕ) (block : Block) →
+        KeepsHeapRules base → MayRelease base freed → IsOther freed w block → OwnsBlock base w block →
+        OwnsBlock (released_words base freed) w block }
 {}
 
 /// A law for proofs: a formatted image keeps the heap's rules.

@@ -43,7 +43,8 @@ pub(crate) fn push_lane(plan: &mut Plan, lane: u8, owner: Place, block: Place)
     requires owner { owner.0 < 4194304 }
     requires block { block.0 < 4194304 }
     requires room { 4 ≤ plan.old.spare }
-    ensures left { plan.new.left ≡ plan.old.left ++ part_actions (lane_part (record { lane = lane; owner = owner.0; block = block.0; marked = 0 })) }
+    ensures left { plan.new.left ≡ plan.old.left
+        ++ part_actions (lane_part (record { lane = lane; owner = owner.0; block = block.0; marked = 0 })) }
     ensures spare { plan.new.spare + 4 ≡ plan.old.spare }
 {
     let dest = lane_dest(lane);
@@ -68,12 +69,16 @@ pub(crate) fn push_allocation(plan: &mut Plan, lane: u8, owner: Place, block: Pl
     requires owner { owner.0 < 4194304 }
     requires block { block.0 < 4194304 }
     requires room { 16 ≤ plan.old.spare }
-    ensures left { plan.new.left ≡ plan.old.left ++ plan_of (allocation_parts (record { lane = lane; owner = owner.0; block = block.0; marked = marked })) }
+    ensures left { plan.new.left ≡ plan.old.left
+        ++ plan_of (allocation_parts (record { lane = lane; owner = owner.0; block = block.0; marked = marked })) }
     ensures spare { plan.new.spare + 16 ≡ plan.old.spare }
 {
     push_lane(plan, lane, owner, block);
+    // From here on opening undoes the allocation.
     plan.push_store(lane_op(lane), ALLOCATING);
+    // The mark comes before the owner's word: else that would name a block that isn't live.
     plan.push_store(mark_of(block), marked);
+    // From here on the block is allocated, also once the lane is mended.
     plan.push_store(owner, PPtr::of(block).word());
     plan.push_store(lane_op(lane), IDLE);
 }
@@ -84,11 +89,14 @@ pub(crate) fn push_freeing(plan: &mut Plan, lane: u8, owner: Place, block: Place
     requires owner { owner.0 < 4194304 }
     requires block { block.0 < 4194304 }
     requires room { 16 ≤ plan.old.spare }
-    ensures left { plan.new.left ≡ plan.old.left ++ plan_of (freeing_parts (record { lane = lane; owner = owner.0; block = block.0; marked = 0 }) clear) }
+    ensures left { plan.new.left ≡ plan.old.left
+        ++ plan_of (freeing_parts (record { lane = lane; owner = owner.0; block = block.0; marked = 0 }) clear) }
     ensures spare { plan.new.spare + 16 ≡ plan.old.spare }
 {
     push_lane(plan, lane, owner, block);
+    // From here on the block is freed, also once the lane is mended.
     plan.push_store(lane_op(lane), FREEING);
+    // The owner's word comes before the mark: else it would name a block that isn't live.
     plan.push_store(owner, 0);
     plan.push_store(mark_of(block), clear);
     plan.push_store(lane_op(lane), IDLE);
@@ -102,6 +110,7 @@ pub(crate) fn push_new_page(plan: &mut Plan, page: Page, class: u8)
     ensures left { plan.new.left ≡ plan.old.left ++ plan_of (new_page_parts page.0 class) }
     ensures spare { plan.new.spare + 6 ≡ plan.old.spare }
 {
+    // The bitmap comes before the descriptor: else the page would have the blocks that old words happen to say.
     plan.push_store(Place(PAGE_WORDS * u32::from(page.0)), 0);
     plan.push_store(descriptor(page), SMALL_PAGE + u64::from(class));
 }
@@ -110,7 +119,8 @@ pub(crate) fn push_new_page(plan: &mut Plan, page: Page, class: u8)
 pub(crate) fn push_forgetting<M: Memory>(plan: &mut Plan, mem: &M, run: Run)
     requires in_image { 512 * (run.first + run.pages) ≤ length (M.device mem.now).cached }
     requires room { 2 * run.pages + 1 ≤ plan.old.spare }
-    ensures left { plan.new.left ≡ plan.old.left ++ plan_of (unless_empty (forget_given_back (M.device mem.now).cached (range_with_len run.first run.pages))) }
+    ensures left { plan.new.left ≡ plan.old.left
+        ++ plan_of (unless_empty (forget_given_back (M.device mem.now).cached (range_with_len run.first run.pages))) }
     ensures spare { plan.old.spare ≤ plan.new.spare + (2 * run.pages + 1) }
 {
     let count = push_given_back(plan, mem, run);
@@ -123,7 +133,8 @@ pub(crate) fn push_forgetting<M: Memory>(plan: &mut Plan, mem: &M, run: Run)
 fn push_given_back<M: Memory>(plan: &mut Plan, mem: &M, run: Run) -> u32
     requires in_image { 512 * (run.first + run.pages) ≤ length (M.device mem.now).cached }
     requires room { run.pages ≤ plan.old.spare }
-    ensures left { plan.new.left ≡ plan.old.left ++ forget_given_back (M.device mem.now).cached (range_with_len run.first run.pages) }
+    ensures left { plan.new.left ≡ plan.old.left
+        ++ forget_given_back (M.device mem.now).cached (range_with_len run.first run.pages) }
     ensures count { result ≡ length (forget_given_back (M.device mem.now).cached (range_with_len run.first run.pages)) }
     ensures most { result ≤ run.pages }
     ensures spare { plan.new.spare + result ≡ plan.old.spare }

@@ -35,8 +35,12 @@ pub fn reopen<M: Memory>(alloc: Global, mem: &M) -> Result<Heap, NoMemory>
 
 // Reads each descriptor once.
 fn scan_pages<M: Memory>(alloc: Global, mem: &M) -> Result<Scan, NoMemory>
-    ensures descriptors { IfOk result (λ scan. scan.descriptors.items ≡ map (descriptor_of (M.device mem.now).cached) (below (page_count (M.device mem.now).cached))) }
-    ensures small { IfOk result (λ scan. scan.small.items ≡ filter (is_small_page (M.device mem.now).cached) (below (page_count (M.device mem.now).cached))) }
+    ensures descriptors { IfOk result (λ scan.
+        scan.descriptors.items ≡ map (descriptor_of (M.device mem.now).cached)
+        (below (page_count (M.device mem.now).cached))) }
+    ensures small { IfOk result (λ scan.
+        scan.small.items ≡ filter (is_small_page (M.device mem.now).cached)
+        (below (page_count (M.device mem.now).cached))) }
 {
     let pages = (mem.len() / PAGE_WORDS) as usize;
     let mut scan = Scan {
@@ -54,8 +58,10 @@ fn scan_segment<M: Memory>(mem: &M, segment: u32, scan: &mut Scan)
     requires segment { 32768 * segment + 32768 ≤ length (M.device mem.now).cached }
     requires descriptors { vec_len scan.old.descriptors + 64 ≤ vec_capacity scan.old.descriptors }
     requires small { vec_len scan.old.small + 64 ≤ vec_capacity scan.old.small }
-    ensures descriptors { scan.new.descriptors.items ≡ scan.old.descriptors.items ++ map (descriptor_of (M.device mem.now).cached) (range_with_len (64 * segment) 64) }
-    ensures small { scan.new.small.items ≡ scan.old.small.items ++ filter (is_small_page (M.device mem.now).cached) (range_with_len (64 * segment) 64) }
+    ensures descriptors { scan.new.descriptors.items ≡ scan.old.descriptors.items
+        ++ map (descriptor_of (M.device mem.now).cached) (range_with_len (64 * segment) 64) }
+    ensures small { scan.new.small.items ≡ scan.old.small.items
+        ++ filter (is_small_page (M.device mem.now).cached) (range_with_len (64 * segment) 64) }
     ensures length { vec_len scan.new.descriptors ≡ vec_len scan.old.descriptors + 64 }
     ensures more { vec_len scan.new.small ≤ vec_len scan.old.small + 64 }
     ensures capacity { vec_capacity scan.new.descriptors ≡ vec_capacity scan.old.descriptors }
@@ -93,9 +99,11 @@ fn left_behind(inside: u64, value: u64) -> u64
 
 // Adds to the index those of the small pages that have a free slot, the highest first.
 fn add_rooms<M: Memory>(mem: &M, heap: &mut Heap, mut small: Vec<u16>)
-    requires small { small.items ≡ filter (is_small_page (M.device mem.now).cached) (below (page_count (M.device mem.now).cached)) }
+    requires small { small.items ≡ filter (is_small_page (M.device mem.now).cached)
+        (below (page_count (M.device mem.now).cached)) }
     requires none { (class : ℕ) → rooms_of heap.old class ≡ [] }
-    ensures rooms { (class : ℕ) → class < 6 → rooms_of heap.new class ≡ pages_with_room (M.device mem.now).cached class }
+    ensures rooms { (class : ℕ) → class < 6 →
+        rooms_of heap.new class ≡ pages_with_room (M.device mem.now).cached class }
     ensures free { heap.new.free ≡ heap.old.free }
 {
     while let Some(page) = small.pop() {
@@ -108,7 +116,9 @@ fn add_room<M: Memory>(mem: &M, heap: &mut Heap, page: u16)
     requires in_image { page < page_count (M.device mem.now).cached }
     requires small { IsTrue (is_small_page (M.device mem.now).cached page) }
     requires rising { (class : ℕ) → class < 6 → IsRising (page + 1) (rooms_of heap.old class) 8192 }
-    ensures rooms { (class : ℕ) → class < 6 → rooms_of heap.new class ≡ (if has_room (M.device mem.now).cached class page then page ∷ rooms_of heap.old class else rooms_of heap.old class) }
+    ensures rooms { (class : ℕ) → class < 6 →
+        rooms_of heap.new class ≡ (if has_room (M.device mem.now).cached class page then page ∷ rooms_of heap.old class
+        else rooms_of heap.old class) }
     ensures free { heap.new.free ≡ heap.old.free }
 {
     let value = mem.load(descriptor(Page(page)));
