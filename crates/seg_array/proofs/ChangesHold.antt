@@ -5,8 +5,8 @@ use Rattle.image_layout.specs.Checks.{Keeps}
 use Rattle.pm_model.specs.Changes.{HoldsOnWords}
 use Rattle.heap_palloc.specs.Index.{HeapIndex, IsIndexOf}
 use Rattle.seg_array.specs.Calls.{IsTableArray, MayPlanGrowth}
-use Rattle.seg_array.specs.Changes.{growth, grown_words, EndsGrowth}
-use Rattle.seg_array.specs.Growth.{Growth, MayGrow}
+use Rattle.seg_array.specs.Changes.{growth, EndsGrowth}
+use Rattle.seg_array.specs.Growth.{Growth, grown_words, MayGrow}
 use Rattle.seg_array.specs.Shown.{HasSameHeader}
 use Rattle.seg_array.proofs.Again.{growth_rules, growth_array}
 use Rattle.seg_array.proofs.Headers.{array_same, places_same}

@@ -5,8 +5,8 @@ use Rattle.std.specs.List.{range_with_len}
 use Rattle.pm_model.specs.declared.action.Action.TheVariants.{Punch}
 use Rattle.image_layout.specs.Fixed.{lane_op_at}
 use Rattle.image_layout.specs.Pointer.{pointer_word}
-use Rattle.image_layout.specs.Places.{page_of, page_at, page_count}
-use Rattle.pm_model.specs.Plans.{Part, one_store}
+use Rattle.image_layout.specs.Places.{page_of, page_at, page_count, place_in}
+use Rattle.pm_model.specs.Plans.{Part, finished, one_store}
 use Rattle.image_layout.specs.Blocks.{Block, descriptor_of, is_inside, is_small_page, live_blocks}
 use Rattle.heap_palloc.specs.Parts.{big_allocation_parts}
 use Rattle.heap_palloc.specs.Law.{IsOwnerPlace, IsHeapPage, Pages, pages_allocation, MayTakeRun}
@@ -29,9 +29,22 @@ next_pointer_at words header = chunk_pointer_at header (chunk_count words header
 abbrev pub HasNoNext : List ℕ → ℕ → Type 0
 HasNoNext words header = slice_index words (next_pointer_at words header) ≡ 0
 
+-- where the chunk begins that it names
+abbrev pub next_place : List ℕ → ℕ → ℕ
+next_place words header = place_in (slice_index words (next_pointer_at words header))
+
+-- how many pages the next chunk has
+abbrev pub next_pages : List ℕ → ℕ → ℕ
+next_pages words header = chunk_pages (chunk_count words header)
+
 -- the pages of the chunk, the word for its pointer, and the chunk as a block
 abbrev pub next_chunk : List ℕ → Growth → Pages
-next_chunk words g = record { lane = g.lane; owner = next_pointer_at words g.header; first = g.first; pages = chunk_pages (chunk_count words g.header) }
+next_chunk words g = record {
+  lane = g.lane;
+  owner = next_pointer_at words g.header;
+  first = g.first;
+  pages = next_pages words g.header;
+}
 
 abbrev pub chunk_block : Pages → Block
 chunk_block chunk = record { first = page_at chunk.first; words = 512 * chunk.pages }
@@ -42,8 +55,8 @@ punches first pages = map (λ page. Punch (record { 0 = page })) (range_with_len
 
 -- the chunk is allocated, unless its pointer is there
 abbrev pub allocating_parts : List ℕ → Pages → List Part
-allocating_parts words chunk = (if slice_index words chunk.owner == 0 then big_allocation_parts words chunk.pages
-    (pages_allocation chunk) else [])
+allocating_parts words chunk =
+    (if slice_index words chunk.owner == 0 then big_allocation_parts words chunk.pages (pages_allocation chunk) else [])
 
 -- its pages are made 0, and then it is published
 abbrev pub publishing_parts : ℕ → ℕ → ℕ → ℕ → List Part
@@ -52,7 +65,15 @@ publishing_parts header count first pages = punches first pages ∷ one_store he
 abbrev pub growth_parts : List ℕ → Growth → List Part
 growth_parts words g =
     allocating_parts words (next_chunk words g)
-    ++ publishing_parts g.header (chunk_count words g.header) g.first (chunk_pages (chunk_count words g.header))
+    ++ publishing_parts g.header (chunk_count words g.header) g.first (next_pages words g.header)
+
+-- the words after a growth
+abbrev pub grown_words : List ℕ → Growth → List ℕ
+grown_words words g = finished (growth_parts words g) words
+
+-- the words once the array owns its next chunk
+abbrev pub owning_words : List ℕ → Growth → List ℕ
+owning_words words g = finished (allocating_parts words (next_chunk words g)) words
 
 -- the array owns the chunk
 pub record OwnsChunk (words : List ℕ) (chunk : Pages) : Type 0 where

@@ -11,7 +11,8 @@ test_image segments = slice_set (slice_set (fresh_words segments) 4 17) 2600 9
 
 -- The same once page 5 is a block that lane 0 allocated and the array owns, and no chunk is published.
 abbrev pub owned_image : List ℕ
-owned_image = slice_set (slice_set (slice_set (slice_set (test_image 1) 5 17) 577 4294969361) 578 4294969856) 2065 4294969856
+owned_image = slice_set (slice_set (slice_set (slice_set (test_image 1) 5 17) 577 4294969361) 578 4294969856) 2065
+    4294969856
 
 -- No plan is half played, and the next growth may be planned through lane 0.
 pub record IsReady (d : Device) (index : HeapIndex) : Type 0 where

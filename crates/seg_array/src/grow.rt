@@ -7,8 +7,8 @@ ghost use Rattle.heap_big.specs.Fit.{TakesBestFit};
 ghost use Rattle.heap_palloc.specs.Index.{IsIndexOf};
 ghost use Rattle.seg_array.specs.declared.error.GrowError.TheVariants.{ArrayFull, Full, NoMemory as OutOfMemory};
 ghost use Rattle.image_layout.specs.Arrays.{chunk_count, chunk_pages};
-ghost use Rattle.seg_array.specs.Growth.{next_pointer_at, punches, publishing_parts};
-ghost use Rattle.seg_array.specs.Calls.{MayPlanGrowth, IsGrowthPlanned, IsChunkPlanned};
+ghost use Rattle.seg_array.specs.Growth.{HasNoNext, next_pages, punches, publishing_parts};
+ghost use Rattle.seg_array.specs.Calls.{MayPlanGrowth, IsGrowthPlanned, IsChunkPlanned, HasNoRun, IsRefused};
 
 use crate::error::GrowError;
 use heap_palloc::{Heap, plan_allocate};
@@ -38,16 +38,13 @@ pub fn plan_grow<M: Memory>(
 ) -> Result<Plan, GrowError>
     requires { MayPlanGrowth (M.device mem.now).cached heap.old lane header.0 }
 
-    ensures planned { IfOk result (λ plan. IsGrowthPlanned (M.device mem.now).cached heap.old heap.new lane header.0 plan.left) }
+    ensures planned { IfOk result (λ plan.
+        IsGrowthPlanned (M.device mem.now).cached heap.old heap.new lane header.0 plan.left) }
 
     ensures array_full { chunk_count (M.device mem.now).cached header.0 ≡ 12 → result ≡ Err ArrayFull }
-    ensures full { IfErr result (λ error. (error ≡ OutOfMemory)
-        ⊎ ((error ≡ ArrayFull) × (chunk_count (M.device mem.now).cached header.0 ≡ 12))
-        ⊎ ((error ≡ Full (chunk_pages (chunk_count (M.device mem.now).cached header.0)) (longest_free_run (M.device mem.now).cached))
-        × (slice_index (M.device mem.now).cached (next_pointer_at (M.device mem.now).cached header.0) ≡ 0)
-        × (longest_free_run (M.device mem.now).cached < chunk_pages (chunk_count (M.device mem.now).cached header.0)))) }
-    ensures room { IfOk result (λ _. slice_index (M.device mem.now).cached (next_pointer_at (M.device mem.now).cached header.0) ≡ 0 →
-        chunk_pages (chunk_count (M.device mem.now).cached header.0) ≤ longest_free_run (M.device mem.now).cached) }
+    ensures refused { IfErr result (λ error. IsRefused (M.device mem.now).cached header.0 error) }
+    ensures room { IfOk result (λ _. HasNoNext (M.device mem.now).cached header.0 →
+        next_pages (M.device mem.now).cached header.0 ≤ longest_free_run (M.device mem.now).cached) }
     ensures unchanged { OnErr result (heap.new ≡ heap.old) }
 {
     let count = mem.load(header) as u32;
@@ -76,13 +73,12 @@ fn push_chunk<M: Memory>(
     requires count { count ≡ chunk_count (M.device mem.now).cached header.0 }
     requires not_full { count < 12 }
     requires room { 2 * chunk_pages count + 18 ≤ plan.old.spare }
-    ensures planned { IfOk result (λ first. IsChunkPlanned (M.device mem.now).cached heap.old heap.new lane header.0 first plan.old.left plan.new.left) }
+    ensures planned { IfOk result (λ first.
+        IsChunkPlanned (M.device mem.now).cached heap.old heap.new lane header.0 first plan.old.left plan.new.left) }
     ensures spare { IfOk result (λ _. plan.old.spare ≤ plan.new.spare + (2 * chunk_pages count + 18)) }
-    ensures full { IfErr result (λ error. (error ≡ OutOfMemory)
-        ⊎ ((error ≡ Full (chunk_pages count) (longest_free_run (M.device mem.now).cached))
-        × (slice_index (M.device mem.now).cached (next_pointer_at (M.device mem.now).cached header.0) ≡ 0)
-        × (longest_free_run (M.device mem.now).cached < chunk_pages count))) }
-    ensures fits { IfOk result (λ _. slice_index (M.device mem.now).cached (next_pointer_at (M.device mem.now).cached header.0) ≡ 0 →
+    ensures full { IfErr result (λ error.
+        (error ≡ OutOfMemory) ⊎ HasNoRun (M.device mem.now).cached header.0 (chunk_pages count) error) }
+    ensures fits { IfOk result (λ _. HasNoNext (M.device mem.now).cached header.0 →
         chunk_pages count ≤ longest_free_run (M.device mem.now).cached) }
     ensures unchanged { OnErr result (heap.new ≡ heap.old) }
 {
@@ -106,7 +102,9 @@ fn push_publishing(plan: &mut Plan, header: Place, count: u32, first: u16)
 {
     let pages = chunk_pages(count);
     push_punches(plan, first, pages);
+    // The fence comes before the count: else the chunk would show its old words.
     plan.end_part(pages);
+    // From here on the chunk is published.
     plan.push(Action::Store {
         place: header,
         value: u64::from(count + 1),

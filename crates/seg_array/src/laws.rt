@@ -5,9 +5,9 @@ ghost use Rattle.pm_model.specs.Changes.{Survives};
 ghost use Rattle.image_layout.specs.Arrays.{array_rule, capacity, place_of};
 ghost use Rattle.image_layout.specs.Checks.{Keeps};
 ghost use Rattle.heap_palloc.specs.Index.{HeapIndex, IsIndexOf};
-ghost use Rattle.seg_array.specs.Calls.{IsTableArray, MayPlanGrowth, IsGrowthPlanned};
-ghost use Rattle.seg_array.specs.Changes.{growth, grown_words};
-ghost use Rattle.seg_array.specs.Growth.{Growth, growth_by};
+ghost use Rattle.seg_array.specs.Calls.{IsTableArray, MayGoOn, MayPlanGrowth};
+ghost use Rattle.seg_array.specs.Changes.{growth};
+ghost use Rattle.seg_array.specs.Growth.{Growth};
 ghost use Rattle.seg_array.specs.Shown.{HasSameHeader};
 
 /// What is read of an array: where the count and the pointers of its header are the same, its rule holds, and no word of
@@ -31,6 +31,5 @@ pub fn table_array_law()
 pub fn growth_law()
     ensures survives { (g : Growth) → Survives (growth g) }
     ensures again { (base : List ℕ) (old new : HeapIndex) (lane header : ℕ) (plan : List Action) →
-        MayPlanGrowth base old lane header → (planned : IsGrowthPlanned base old new lane header plan) →
-        MayPlanGrowth (grown_words base (growth_by lane header planned.first)) new lane header }
+        MayPlanGrowth base old lane header → MayGoOn base old new lane header plan }
 {}
