@@ -28,7 +28,8 @@ pub record EndsCreation (c : Creation) (base words : List ℕ) : Type 0 where
 pub record SameCreationRead (c : Creation) (old new : List ℕ) : Type 0 where
   pub size : length new ≡ length old
   pub count : table_count new ≡ table_count old
-  pub next : slice_index new (table_slot_at (table_count old + 1)) ≡ slice_index old (table_slot_at (table_count old + 1))
+  pub next : slice_index new (table_slot_at (table_count old + 1))
+      ≡ slice_index old (table_slot_at (table_count old + 1))
   pub op : slice_index new (lane_op_at 0) ≡ slice_index old (lane_op_at 0)
   pub choice : SameChoiceRead c.choice old new
   pub rules : KeepsHeapRules new

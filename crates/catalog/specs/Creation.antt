@@ -6,7 +6,7 @@ use Rattle.mv_model.specs.declared.shape.Column.{Column}
 use Rattle.mv_model.specs.declared.shape.Kind.{Kind}
 use Rattle.mv_model.specs.declared.shape.Kind.TheVariants.{Int, Text}
 use Rattle.image_layout.specs.Fixed.{table_count_at, table_slot_at}
-use Rattle.pm_model.specs.Plans.{Part, one_store}
+use Rattle.pm_model.specs.Plans.{Part, finished, one_store}
 use Rattle.image_layout.specs.Records.{table_words}
 use Rattle.image_layout.specs.Tables.{table_count}
 use Rattle.heap_palloc.specs.Choice.{Choice, choice_block, choice_parts, IsThrough, MayMake}
@@ -37,6 +37,9 @@ pub record Creation : Type 0 where
   pub name : List ℕ
   pub columns : List Column
 
+abbrev pub creation_by : ℕ → Choice → List ℕ → List Column → Creation
+creation_by lane choice name columns = record { lane = lane; choice = choice; name = name; columns = columns }
+
 -- the place of the new table's block
 abbrev pub new_block : Creation → ℕ
 new_block c = (choice_block c.choice).first
@@ -46,7 +49,12 @@ abbrev pub publishing_parts : ℕ → List ℕ → ℕ → List Part
 publishing_parts block values count = fill_from block values ∷ one_store table_count_at (count + 1) ∷ []
 
 abbrev pub creation_parts : List ℕ → Creation → List Part
-creation_parts words c = choice_parts words c.choice ++ publishing_parts (new_block c) (table_record c.name c.columns) (table_count words)
+creation_parts words c = choice_parts words c.choice
+    ++ publishing_parts (new_block c) (table_record c.name c.columns) (table_count words)
+
+-- the words after it
+abbrev pub created_words : List ℕ → Creation → List ℕ
+created_words words c = finished (creation_parts words c) words
 
 -- The creation may begin: there are fewer than 32 tables, the block may be allocated into the slot at the count, and it has
 -- the words that the table needs.

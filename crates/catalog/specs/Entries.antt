@@ -37,7 +37,11 @@ table_named tables name = position_from (λ table. same_name table.name name) 0 
 abbrev pub published_table : List ℕ → ℕ → CatalogTable
 published_table words table =
     let block = table_block words table in
-    record { name = name_at words (table_name_at block); columns = map (column_of words) (columns_of words block); block = block }
+    record {
+      name = name_at words (table_name_at block);
+      columns = map (column_of words) (columns_of words block);
+      block = block;
+    }
 
 abbrev pub published_tables : List ℕ → List CatalogTable
 published_tables words = map (published_table words) (below (table_count words))
@@ -46,9 +50,11 @@ published_tables words = map (published_table words) (below (table_count words))
 pub record ShowsTable (words : List ℕ) (table : ℕ) : Type 0 where
   pub pointer : IsTrue (is_pointer words (slice_index words (table_slot_at table)))
   pub most : slice_index words (columns_at (table_block words table)) ≤ 16
-  pub in_image : table_block words table + table_words (slice_index words (columns_at (table_block words table))) ≤ length words
+  pub in_image : table_block words table + table_words (slice_index words (columns_at (table_block words table)))
+      ≤ length words
   pub name : IsTrue (is_name (name_at words (table_name_at (table_block words table))))
-  pub column_names : (column : ℕ) → column < slice_index words (columns_at (table_block words table)) → IsTrue (is_name (name_at words (column_name_at (column_at (table_block words table) column))))
+  pub column_names : (column : ℕ) → column < slice_index words (columns_at (table_block words table))
+      → IsTrue (is_name (name_at words (column_name_at (column_at (table_block words table) column))))
   pub shape : IsTrue (is_shape (map (column_of words) (columns_of words (table_block words table))))
 
 -- The rules by which the tables are read back: 4, 9, 12 and 30. Every sound image keeps them.

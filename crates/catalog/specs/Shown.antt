@@ -42,7 +42,8 @@ pub record IsCreated (base : List ℕ) (c : Creation) (words : List ℕ) : Type 
   pub keeps : KeepsUntouched base c words
   pub count : table_count words ≡ table_count base + 1
   pub slot : slice_index words (table_slot_at (table_count base)) ≡ pointer_word (new_block c)
-  pub record_is : (k : ℕ) → k < length (table_record c.name c.columns) → slice_index words (new_block c + k) ≡ slice_index (table_record c.name c.columns) k
+  pub record_is : (k : ℕ) → k < length (table_record c.name c.columns)
+      → slice_index words (new_block c + k) ≡ slice_index (table_record c.name c.columns) k
   pub blocks_are : live_blocks words ≡ live_blocks (finished (creation_parts base c) base)
 
 -- the table as a catalog has it

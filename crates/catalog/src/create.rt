@@ -1,12 +1,10 @@
 // Planning the creation of a table.
 ghost use Rattle.std.specs.Prelude.{◌≡◌, ◌⊎◌, ℕ, ◌+◌, ◌*◌, ◌<◌, ◌≤◌, ◌++◌, Err, IfOk, IfErr, OnErr, IsNone, IsSome, Some, length};
-ghost use Rattle.image_layout.specs.Blocks.{longest_free_run};
 ghost use Rattle.image_layout.specs.Records.{table_words as words_of_table};
-ghost use Rattle.heap_palloc.specs.Choice.{needed_pages};
 ghost use Rattle.heap_palloc.specs.Calls.{IsFull};
-ghost use Rattle.catalog.specs.declared.error.CreateError.TheVariants.{TableExists, TooManyTables, Full, NoMemory as OutOfMemory};
+ghost use Rattle.catalog.specs.declared.error.CreateError.TheVariants.{TableExists, TooManyTables};
 ghost use Rattle.catalog.specs.Entries.{HasNames, table_named};
-ghost use Rattle.catalog.specs.Calls.{MayPlanCreation, IsCreationPlanned};
+ghost use Rattle.catalog.specs.Calls.{MayPlanCreation, IsCreationPlanned, IsRefused, with_planned};
 
 use crate::error::CreateError;
 use crate::tables::{Catalog, Table};
@@ -41,17 +39,14 @@ impl Catalog {
 
         ensures planned { IfOk result (λ plan. (first : ℕ)
             × IsCreationPlanned (M.device mem.now).cached heap.old heap.new lane name.now shape.now first plan.left
-            × (self.new ≡ record { tables = self.old.tables; planned = Some (record { name = name.now; columns = shape.now; block = first }) })) }
+            × (self.new ≡ with_planned self.old name.now shape.now first)) }
 
         ensures names { IfOk result (λ _. HasNames name.now shape.now) }
         ensures table_exists { IsSome (table_named self.old.tables name.now) → result ≡ Err TableExists }
-        ensures too_many { IsNone (table_named self.old.tables name.now) → length self.old.tables ≡ 32 → result ≡ Err TooManyTables }
-        ensures full { IfErr result (λ error. (error ≡ OutOfMemory)
-            ⊎ ((error ≡ TableExists) × IsSome (table_named self.old.tables name.now))
-            ⊎ ((error ≡ TooManyTables) × IsNone (table_named self.old.tables name.now) × (length self.old.tables ≡ 32))
-            ⊎ ((error ≡ Full (needed_pages (words_of_table (length shape.now))) (longest_free_run (M.device mem.now).cached))
-            × IsNone (table_named self.old.tables name.now) × (length self.old.tables < 32)
-            × IsFull (M.device mem.now).cached (words_of_table (length shape.now)))) }
+        ensures too_many { IsNone (table_named self.old.tables name.now) → length self.old.tables ≡ 32 →
+            result ≡ Err TooManyTables }
+        ensures full { IfErr result (λ error.
+            IsRefused (M.device mem.now).cached self.old.tables name.now (words_of_table (length shape.now)) error) }
         ensures room { IfOk result (λ _. IsFull (M.device mem.now).cached (words_of_table (length shape.now)) → ⊥) }
         ensures heap_unchanged { OnErr result (heap.new ≡ heap.old) }
         ensures unchanged { OnErr result (self.new ≡ self.old) }

@@ -54,9 +54,12 @@ fn read_table<M: Memory>(mem: &M, table: u8) -> Table
 // The columns of a table.
 fn read_shape<M: Memory>(mem: &M, block: Place) -> Shape
     requires most { slice_index (M.device mem.now).cached (columns_at block.0) ≤ 16 }
-    requires in_image { block.0 + table_words (slice_index (M.device mem.now).cached (columns_at block.0)) ≤ length (M.device mem.now).cached }
-    requires names { (number : ℕ) → number < slice_index (M.device mem.now).cached (columns_at block.0) → IsTrue (is_name (name_at (M.device mem.now).cached (column_name_at (column_at block.0 number)))) }
-    requires shape { IsTrue (is_shape (map (column_of (M.device mem.now).cached) (columns_of (M.device mem.now).cached block.0))) }
+    requires in_image { block.0 + table_words (slice_index (M.device mem.now).cached (columns_at block.0))
+        ≤ length (M.device mem.now).cached }
+    requires names { (number : ℕ) → number < slice_index (M.device mem.now).cached (columns_at block.0) →
+        IsTrue (is_name (name_at (M.device mem.now).cached (column_name_at (column_at block.0 number)))) }
+    requires shape { IsTrue (is_shape
+        (map (column_of (M.device mem.now).cached) (columns_of (M.device mem.now).cached block.0))) }
     ensures { result ≡ map (column_of (M.device mem.now).cached) (columns_of (M.device mem.now).cached block.0) }
 {
     let count = mem.load(column_count(block)) as u8;
