@@ -36,7 +36,7 @@ standing given now = record { reply = given; copy = given; plan = None; after = 
 pub stands : {E : Type 0} (words : List ℕ) (now : Transactions) (said : Call) (given : Reply) (made : Result Decision E) → IfOk made (λ decision. decision ≡ standing given now)
     → IsDecided words now said given [] now → IsPlacedLate words None said given [] → IfOk made (λ decision. IsDecision words now said decision)
 stands words now said given (Ok decision) is decided late =
-    subst (λ (d : Decision). IsDecision words now said d) (sym is) (record { copied = refl; decided = decided; late = late; survives = stands-survives words now decided.stage })
+    subst (λ (d : Decision). IsDecision words now said d) (sym is) (record { copied = refl; decided = decided; late = late; timed = tt; survives = stands-survives words now decided.stage })
 stands words now said given (Err error) is decided late = tt
 
 -- no transaction is open
@@ -93,6 +93,7 @@ closes words begun own (Ok decision) stage none closed =
       copied = closed.copied;
       decided = rw (closed.reply, closed.after) decided;
       late = rw (closed.reply, closed.late) tt;
+      timed = rw closed.late tt;
       survives = rw (closed.after, closed.late) (close-survives words begun own (left_of decision.plan) (record { begun = begun; running = None }) stage none closed.plan decided);
     }
 

@@ -18,7 +18,7 @@ use Rattle.stage_object.specs.Object.{clear_part, entry_clears}
 use Rattle.engine_core.specs.Stage.{high_at, born_at, ended_at, value_at}
 use Rattle.engine_core.specs.StagePlans.{stamp_part, commit_late, commit_parts, close_parts}
 use Rattle.engine_core.specs.StageRules.{IsStage}
-use Rattle.engine_core.specs.Decided.{IsCommitPlan, IsDecided}
+use Rattle.engine_core.specs.Decided.{IsCommitPlan, IsDecided, IsLateIn}
 use Rattle.engine_core.specs.LogicalState.{commit_of, commits_in, created_row, key_of, rows_from, rows_where, state_by, state_of}
 use Rattle.engine_core.proofs.Rows.{IsSameUpTo, commits_in-same, commits_in-more, rows_from-same, length-rows_from, length-commits_in, rows_where-interval, rows_where-none}
 use Rattle.engine_core.proofs.States.{creating, commit-answer, commit-next, commit-none, close-next}
@@ -271,11 +271,16 @@ module _ (words : List ℕ) (begun number rows high last : ℕ) (stage : IsStage
         stage = rw after commit-stage;
         full = tt;
         below = tt;
-        counted = ap length is_actions ∙ ap (λ (n : ℕ). length (plan_of (commit_parts n rows commit))) first_is
-            ∙ ap (λ (n : ℕ). length (plan_of (commit_parts (get_or words high_at 0 + rows - n) n commit))) (sym (length-rows_from words (get_or words high_at 0) rows));
+        planned = is_actions ∙ ap (λ (n : ℕ). plan_of (commit_parts n rows commit)) first_is
+            ∙ ap (λ (n : ℕ). plan_of (commit_parts (get_or words high_at 0 + rows - n) n commit)) (sym (length-rows_from words (get_or words high_at 0) rows));
         short = short;
         begun = omega arith;
       }
+
+  -- so many of its actions come after the fence that makes it certain
+  pub commit-timed : (commit late : ℕ) → late ≡ length (plan_of (commit_late rows commit))
+      → IsLateIn (state_of words (record { begun = begun; running = Some (record { number = number; rows = rows }) })) (Some (record { number = commit; left = late }))
+  commit-timed commit late is_late = is_late ∙ ap (λ (n : ℕ). length (plan_of (commit_late n commit))) (sym (length-rows_from words (get_or words high_at 0) rows))
 
   -- its plan is that of a commit with the next number
   pub commit-planned : (commit late : ℕ) (actions : List Action) → commit ≡ last + 1 → actions ≡ plan_of (commit_parts high rows commit) → late ≡ length (plan_of (commit_late rows commit)) → IsCommitPlan words commit late actions
@@ -319,7 +324,7 @@ close-decided words begun number rows stage actions none is_actions short =
           ∙ ap (λ (xs : List ℕ). state_of xs (record { begun = begun; running = None })) (sym after);
       full = tt;
       below = tt;
-      counted = ap length is_actions;
+      planned = is_actions;
       stage = rw after (switch-stage words 0 (Some (record { number = number; rows = rows })) None stage none refl refl);
       short = short;
       begun = omega arith;

@@ -23,9 +23,9 @@ use Rattle.engine_core.specs.StagePlans.{created_entry, insert_parts}
 use Rattle.engine_core.specs.StageRules.{IsStage, state_word}
 use Rattle.engine_core.specs.Served.{insert_of}
 use Rattle.mv_model.specs.View.{next_row_of}
-use Rattle.engine_core.specs.Actions.{actions_due}
+use Rattle.engine_core.specs.Actions.{plan_due}
 use Rattle.engine_core.specs.Decided.{IsDecided, IsFullWhere, IsRowBelow}
-use Rattle.engine_core.specs.LogicalState.{commits_in, created_row, integer_of, key_of, rows_from, rows_of, state_by, state_of}
+use Rattle.engine_core.specs.LogicalState.{commits_in, created_row, integer_of, key_of, key_word_of, rows_from, rows_of, state_by, state_of}
 use Rattle.engine_core.specs.declared.transactions.Transactions.{Transactions}
 use Rattle.engine_core.specs.declared.transactions.Running.{Running}
 use Rattle.engine_core.proofs.Rows.{IsSameUpTo, commits_in-same, rows_from-same, rows_from-more, length-rows_from, length-commits_in}
@@ -35,8 +35,8 @@ use Rattle.engine_core.proofs.Stores.{words_after-plan, get-stored, get-beside}
 -- a refusal, or a reading
 pub refused : (words : List ℕ) (now : Transactions) (call : Call) (given : Reply) → IsStage words now.running → IsAllowed (state_of words now) 1 call given
     → next (state_of words now) 1 call given ≡ state_of words now → IsFullWhere (state_of words now) given
-    → IsRowBelow (next_row_of (state_of words now) 0) given → 0 ≡ actions_due (state_of words now) given → IsDecided words now call given [] now
-refused words now call given stage allowed same full below counted = record {
+    → IsRowBelow (next_row_of (state_of words now) 0) given → [] ≡ plan_due (state_of words now) call given → IsDecided words now call given [] now
+refused words now call given stage allowed same full below planned = record {
   allowed = allowed;
   parts = [];
   plan = tt;
@@ -45,7 +45,7 @@ refused words now call given stage allowed same full below counted = record {
   stage = stage;
   full = full;
   below = below;
-  counted = counted;
+  planned = planned;
   short = omega arith;
   begun = omega arith;
 }
@@ -124,7 +124,7 @@ module _ (words : List ℕ) (begun : ℕ) (stage : IsStage words None) where
         state = rw (is_snapshot, after) (begin-next (get_or words high_at 0 + 0) commits begun (begun + 1) (get_or words last_at 0) ∙ sym begin-state);
         full = tt;
         below = tt;
-        counted = ap length is_actions;
+        planned = is_actions;
         stage = rw after (switch-stage words 1 None (Some (record { number = begun + 1; rows = 0 })) stage refl refl refl);
         short = short;
         begun = omega arith;
@@ -204,10 +204,10 @@ module _ (words : List ℕ) (begun number rows : ℕ) (stage : IsStage words (So
         others = λ object low lt. insert-beside (state_at object) (λ e. omega (arith, e, low, few)) (λ e. omega (arith, e, lt)) ∙ stage.others object low lt;
       }
 
-  pub insert-decided : (value : ℤ) (actions : List Action) → integer_of word ≡ value → actions ≡ plan_of (insert_parts rows row word) → length actions ≤ 400
+  pub insert-decided : (value : ℤ) (actions : List Action) → integer_of word ≡ value → word ≡ key_word_of value → actions ≡ plan_of (insert_parts rows row word) → length actions ≤ 400
       → IsDecided words (record { begun = begun; running = Some (record { number = number; rows = rows }) }) (insert_of value) (reply.Row row) actions
       (record { begun = begun; running = Some (record { number = number; rows = rows + 1 }) })
-  insert-decided value actions is_value is_actions short =
+  insert-decided value actions is_value is_word is_actions short =
       let after : words_after actions words ≡ finished (insert_parts rows row word) words = ap (λ (xs : List Action). words_after xs words) is_actions ∙ words_after-plan (insert_parts rows row word) words in
       let commits = commits_in words (get_or words last_at 0) in
       let created = rows_from words (get_or words high_at 0) rows in
@@ -234,7 +234,7 @@ module _ (words : List ℕ) (begun number rows : ℕ) (stage : IsStage words (So
         stage = rw after insert-stage;
         full = (fewer, omega (arith, count, few));
         below = rw after (let h = insert-beside high_at (λ e. omega (arith, e)) (λ e. omega (arith, e)) in omega (arith, h, is_row));
-        counted = ap length is_actions;
+        planned = is_actions ∙ ap (λ (n : ℕ). plan_of (insert_parts n row word)) (sym count) ∙ ap (λ (w : ℕ). plan_of (insert_parts (length created) row w)) is_word;
         short = short;
         begun = omega arith;
       }

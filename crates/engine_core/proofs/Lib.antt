@@ -13,6 +13,7 @@ pub mod CoreSteps
 pub mod Movements
 pub mod FreshCore
 pub mod Placing
+pub mod Played
 pub mod ImageFacts
 pub mod ImageNumbers
 pub mod RunningFits

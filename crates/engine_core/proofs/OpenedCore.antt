@@ -76,7 +76,8 @@ kept-rests words fits stage = record {
       subst (λ (i : List ℕ). IsSafe words [] flight.Idle 0 i) (sym same) safe;
   least = let shows = stage-shows words None stage in let next = shows.1 in omega (arith, next);
   rows = All-nil (λ entry. IsRowBelow (next_row_of (state_of words (record { begun = 0; running = None })) 0) entry.reply);
-  counted = refl;
+  done = record { actions = []; planned = refl; count = refl; device = refl };
+  timed = tt;
 }
 
 kept-sound : (words : List ℕ) → 32768 ≤ length words → IsSound words → IsKept (at_rest words) words [] (record { begun = 0; running = None }) [] flight.Idle 0 0 0

@@ -13,7 +13,6 @@ use Rattle.mv_model.specs.Next.{next}
 use Rattle.mv_model.specs.State.{State, WriteSet, all_idle}
 use Rattle.mv_model.specs.View.{next_row_of}
 use Rattle.mv_model.specs.History.{closed, state_after}
-use Rattle.engine_core.specs.Actions.{actions_due, actions_in}
 use Rattle.pm_model.specs.declared.action.Action.{Action}
 use Rattle.pm_model.specs.Device.{Device, IsCrashImage}
 use Rattle.image_layout.specs.Fixed.{last_at, commit_word_at}
@@ -114,25 +113,6 @@ given-all history least all = λ entry has is_answered. All-contains (λ e. IsRo
 pub row-below : (given : Reply) (least most : ℕ) → least ≤ most → IsRowBelow least given → IsRowBelow most given
 row-below (reply.Row row) least most le below = omega (arith, le, below)
 row-below given least most le below = below
-
--- ── actions ──
-
-pub actions_in-more : (state : State) (entries : List Entry) (one : Entry) → actions_in state (entries ++ one ∷ []) ≡ actions_in state entries + actions_due (state_after state entries) one.reply
-actions_in-more state [] one = add_zero (actions_due state one.reply)
-  where
-    add_zero : (n : ℕ) → n + 0 ≡ 0 + n
-    add_zero n = omega arith
-actions_in-more state (entry ∷ entries) one =
-    let rest = actions_in-more (next state entry.session entry.call entry.reply) entries one in
-    ap (λ (n : ℕ). actions_due state entry.reply + n) rest
-    ∙ joined (actions_due state entry.reply) (actions_in (next state entry.session entry.call entry.reply) entries) (actions_due (state_after (next state entry.session entry.call entry.reply) entries) one.reply)
-  where
-    joined : (a b c : ℕ) → a + (b + c) ≡ a + b + c
-    joined a b c = omega arith
-
-pub actions_in-answered : (state : State) (entries : List Entry) (one : Entry) → actions_in state (entries ++ answered one ∷ []) ≡ actions_in state (entries ++ one ∷ [])
-actions_in-answered state [] one = refl
-actions_in-answered state (entry ∷ entries) one = ap (λ (n : ℕ). actions_due state entry.reply + n) (actions_in-answered (next state entry.session entry.call entry.reply) entries one)
 
 -- ── what a core promises of its memory ──
 

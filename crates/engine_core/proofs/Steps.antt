@@ -19,20 +19,21 @@ use Rattle.pm_model.specs.Plans.{Play, Part, IsPlaying, IsPlan, words_after, pla
 use Rattle.pm_model.proofs.Words.{cached_after-kept, ext_words, get_or-choose_by}
 use Rattle.pm_model.proofs.PlanLaw.{plan_begins, plan_can_act, plan_goes_on, plan_owns, plan_ends}
 use Rattle.mv_model.specs.View.{next_row_of}
-use Rattle.engine_core.specs.Actions.{actions_due, actions_in}
+use Rattle.engine_core.specs.Actions.{late_in, plan_due}
 use Rattle.engine_core.specs.Recoverable.{Fits}
 use Rattle.engine_core.specs.Survival.{IsShown, IsShownWhile, SurvivesCuts}
-use Rattle.engine_core.specs.Decided.{IsCommitPlan, IsDecided, IsPlacedLate, IsRowBelow}
+use Rattle.engine_core.specs.Decided.{IsCommitPlan, IsDecided, IsLateIn, IsPlacedLate, IsRowBelow}
 use Rattle.engine_core.specs.LogicalState.{logical_state, state_of}
 use Rattle.engine_core.specs.CoreState.{due, IsEntered, IsOfOne, IsPlacedAt, Nothing, answered, in_flight_of, unanswered}
-use Rattle.engine_core.specs.Kept.{IsKept, IsSafe, IsUnderWay}
+use Rattle.engine_core.specs.Kept.{HasPlayed, IsKept, IsSafe, IsUnderWay}
 use Rattle.engine_core.specs.Served.{is_served}
 use Rattle.engine_core.specs.declared.decision.Late.{Late}
 use Rattle.engine_core.specs.declared.flight.Flight.{Flight}
 use Rattle.engine_core.specs.declared.flight.Flight.TheVariants as flight
 use Rattle.engine_core.specs.declared.transactions.Transactions.{Transactions}
 use Rattle.engine_core.proofs.ImageFacts.{all-left, all-right}
-use Rattle.engine_core.proofs.Recoveries.{actions_in-answered, actions_in-more, given-all, given-more, recovers, recovers-more, row-below}
+use Rattle.engine_core.proofs.Played.{certain-less, certain-now, ends-certain, played-answered, played-decided, played-more}
+use Rattle.engine_core.proofs.Recoveries.{given-all, given-more, recovers, recovers-more, row-below}
 use Rattle.engine_core.proofs.Survivals.{holds-end, holds-map, holds-now, holds-plays, rest-shown, survives-holds}
 use Rattle.engine_core.proofs.Placing.{committing-begins, committing-plays}
 use Rattle.engine_core.proofs.Histories.{legal-answered, legal-more, of_one-answered, of_one-more, state_after-answered, state_after-more}
@@ -135,7 +136,8 @@ module _ (opened : List ℕ) where
         safe = holds-plays (IsSafe opened history (flight.Placed given)) d after left rest action is acts kept.safe;
         least = rw words kept.least;
         rows = rw words kept.rows;
-        counted = let c = kept.counted in let size = ap length is in omega (arith, c, size);
+        done = played-more kept.done after rest action is acts;
+        timed = λ front last same. certain-less (state_after (logical_state opened) front) last.reply (length left) (length rest) (let size = ap length is in omega (arith, size)) (kept.timed front last same);
       }
 
   plays_early : (d after : Device) (history : List Entry) (now : Transactions) (left rest : List Action) (action : Action) (number late events fewer played started : ℕ)
@@ -159,7 +161,8 @@ module _ (opened : List ℕ) where
         safe = holds-plays (IsSafe opened history (flight.Committing number late)) d after left rest action is acts kept.safe;
         least = rw words kept.least;
         rows = rw words kept.rows;
-        counted = let c = kept.counted in let size = ap length is in omega (arith, c, size);
+        done = played-more kept.done after rest action is acts;
+        timed = kept.timed;
       }
 
   -- a commit gets its place
@@ -190,7 +193,8 @@ module _ (opened : List ℕ) where
             (holds-plays (IsSafe opened history (flight.Committing number late)) d after left rest action is acts kept.safe);
         least = rw words kept.least;
         rows = rw words (All-push (λ e. IsRowBelow (next_row_of (state_of (words_after left d.cached) now) 0) e.reply) history entry kept.rows tt);
-        counted = let c = kept.counted in let size = ap length is in let all = ap (actions_in (logical_state opened)) none in omega (arith, c, size, all);
+        done = subst (λ (h : List Entry). HasPlayed after opened h rest (played + 1)) (sym none) (played-more kept.done after rest action is acts);
+        timed = ends-certain (logical_state opened) history entry (length rest) (let is_late = kept.timed in omega (arith, at, is_late));
       }
 
   -- an action
@@ -220,11 +224,11 @@ module _ (opened : List ℕ) where
   state_now d history now said events played started kept = ap (state_after (logical_state opened)) (sym (append-nil history)) ∙ kept.represents
 
   decides_now : (d : Device) (history : List Entry) (now next_now : Transactions) (said : Call) (given copy : Reply) (actions : List Action) (events fewer played started : ℕ)
-      → events ≡ fewer + 1 → copy ≡ given → IsDecided d.cached now said given actions next_now
+      → events ≡ fewer + 1 → copy ≡ given → IsPlacedLate d.cached None said given actions → IsDecided d.cached now said given actions next_now
       → (Fits d.cached → SurvivesCuts (IsShownWhile (state_of d.cached now) (state_of (words_after actions d.cached) next_now) None) d.cached actions)
       → IsKept d opened history now [] (flight.Waiting said) events played started
       → IsKept d opened (history ++ unanswered (length history + 1) said given ∷ []) next_now actions (flight.Placed copy) fewer played started
-  decides_now d history now next_now said given copy actions events fewer played started one copied decided survives kept =
+  decides_now d history now next_now said given copy actions events fewer played started one copied places decided survives kept =
       let entry = unanswered (length history + 1) said given in
       let none = append-nil (history ++ entry ∷ []) in
       let before = state_now d history now said events played started kept in
@@ -265,18 +269,17 @@ module _ (opened : List ℕ) where
             (All-weaker (λ (e : Entry). IsRowBelow (next_row_of (state_of d.cached now) 0) e.reply) (λ (e : Entry). IsRowBelow (next_row_of (state_of (words_after actions d.cached) next_now) 0) e.reply)
             (λ e below. row-below e.reply (next_row_of (state_of d.cached now) 0) (next_row_of (state_of (words_after actions d.cached) next_now) 0) more_rows below) history kept.rows)
             decided.below;
-        counted = let c = kept.counted in let nothing = ap (actions_in (logical_state opened)) (append-nil history) in let all = ap (actions_in (logical_state opened)) none in
-            let more = actions_in-more (logical_state opened) history entry in
-            let due_now : length actions ≡ actions_due (state_after (logical_state opened) history) given = decided.counted ∙ ap (λ (s : State). actions_due s given) (sym before) in
-            omega (arith, c, nothing, all, more, due_now);
+        done = subst (λ (h : List Entry). HasPlayed d opened h actions played) (sym none)
+            (played-decided d opened history entry actions played (decided.planned ∙ ap (λ (s : State). plan_due s said given) (sym before)) kept.done);
+        timed = ends-certain (logical_state opened) history entry (length actions) (certain-now d.cached said given actions (state_after (logical_state opened) history) (length actions) places);
       }
 
   decides_late : (d : Device) (history : List Entry) (now next_now : Transactions) (number late : ℕ) (actions : List Action) (events fewer played started : ℕ)
-      → events ≡ fewer + 1 → late < length actions → IsCommitPlan d.cached number late actions → IsDecided d.cached now call.Commit (reply.Committed number) actions next_now
+      → events ≡ fewer + 1 → late < length actions → late ≡ late_in (state_of d.cached now) number → IsCommitPlan d.cached number late actions → IsDecided d.cached now call.Commit (reply.Committed number) actions next_now
       → (Fits d.cached → SurvivesCuts (IsShownWhile (state_of d.cached now) (state_of (words_after actions d.cached) next_now) (Some (record { number = number; left = late }))) d.cached actions)
       → IsKept d opened history now [] (flight.Waiting call.Commit) events played started
       → IsKept d opened history next_now actions (flight.Committing number late) fewer played started
-  decides_late d history now next_now number late actions events fewer played started one later planned decided survives kept =
+  decides_late d history now next_now number late actions events fewer played started one later is_late planned decided survives kept =
       let entry = unanswered (length history + 1) call.Commit (reply.Committed number) in
       let before = state_now d history now call.Commit events played started kept in
       let size_more = length-append history (entry ∷ []) in
@@ -321,26 +324,24 @@ module _ (opened : List ℕ) where
         least = let l = kept.least in omega (arith, l, more_rows);
         rows = All-weaker (λ (e : Entry). IsRowBelow (next_row_of (state_of d.cached now) 0) e.reply) (λ (e : Entry). IsRowBelow (next_row_of (state_of (words_after actions d.cached) next_now) 0) e.reply)
             (λ e below. row-below e.reply (next_row_of (state_of d.cached now) 0) (next_row_of (state_of (words_after actions d.cached) next_now) 0) more_rows below) history kept.rows;
-        counted = let c = kept.counted in let nothing = ap (actions_in (logical_state opened)) (append-nil history) in
-            let more = actions_in-more (logical_state opened) history entry in
-            let due_now : length actions ≡ actions_due (state_after (logical_state opened) history) (reply.Committed number) = decided.counted ∙ ap (λ (s : State). actions_due s (reply.Committed number)) (sym before) in
-            omega (arith, c, nothing, more, due_now);
+        done = played-decided d opened history entry actions played (decided.planned ∙ ap (λ (s : State). plan_due s call.Commit (reply.Committed number)) (sym before)) kept.done;
+        timed = is_late ∙ ap (λ (s : State). late_in s number) (sym before);
       }
 
   -- a decision
   pub decides : (d : Device) (history new : List Entry) (now next_now : Transactions) (said : Call) (given copy : Reply) (late : Option Late) (entered : Flight) (actions : List Action) (events fewer played started : ℕ)
-      → events ≡ fewer + 1 → copy ≡ given → IsPlacedLate d.cached late said given actions → IsEntered late said given copy history new entered → IsDecided d.cached now said given actions next_now
+      → events ≡ fewer + 1 → copy ≡ given → IsPlacedLate d.cached late said given actions → IsLateIn (state_of d.cached now) late → IsEntered late said given copy history new entered → IsDecided d.cached now said given actions next_now
       → (Fits d.cached → SurvivesCuts (IsShownWhile (state_of d.cached now) (state_of (words_after actions d.cached) next_now) late) d.cached actions)
       → IsKept d opened history now [] (flight.Waiting said) events played started → IsKept d opened new next_now actions entered fewer played started
-  decides d history new now next_now said given copy None entered actions events fewer played started one copied places enters decided survives kept =
-      rw (enters.0, enters.1) (decides_now d history now next_now said given copy actions events fewer played started one copied decided survives kept)
-  decides d history new now next_now said (reply.Committed number) copy (Some late) entered actions events fewer played started one copied places enters decided survives kept =
+  decides d history new now next_now said given copy None entered actions events fewer played started one copied places timed enters decided survives kept =
+      rw (enters.0, enters.1) (decides_now d history now next_now said given copy actions events fewer played started one copied places decided survives kept)
+  decides d history new now next_now said (reply.Committed number) copy (Some late) entered actions events fewer played started one copied places timed enters decided survives kept =
       rw (enters.0, enters.1, places.1)
-      (decides_late d history now next_now number late.left actions events fewer played started one places.2 places.3
+      (decides_late d history now next_now number late.left actions events fewer played started one places.2 (timed ∙ ap (λ (n : ℕ). late_in (state_of d.cached now) n) places.1) places.3
       (subst (λ (c : Call). IsDecided d.cached now c (reply.Committed number) actions next_now) places.0 decided)
       (subst (λ (n : ℕ). Fits d.cached → SurvivesCuts (IsShownWhile (state_of d.cached now) (state_of (words_after actions d.cached) next_now) (Some (record { number = n; left = late.left }))) d.cached actions) places.1 survives)
       (subst (λ (c : Call). IsKept d opened history now [] (flight.Waiting c) events played started) places.0 kept))
-  decides d history new now next_now said given copy (Some late) entered actions events fewer played started one copied places enters decided survives kept = absurd places
+  decides d history new now next_now said given copy (Some late) entered actions events fewer played started one copied places timed enters decided survives kept = absurd places
 
   -- a reply
   pub replies : (d : Device) (history new : List Entry) (now : Transactions) (given : Reply) (events fewer played started : ℕ) → events ≡ fewer + 1
@@ -386,8 +387,9 @@ module _ (opened : List ℕ) where
         safe = λ image cut. subst (λ (i : List ℕ). IsSafe opened (ends.front ++ answered ends.last ∷ []) flight.Idle 0 i) (sym (same image cut)) (fits, recovered);
         least = kept.least;
         rows = rows;
-        counted = let c = kept.counted in let l = ap (actions_in (logical_state opened)) none_old in let m = ap (actions_in (logical_state opened)) none in
-            let h = ap (actions_in (logical_state opened)) ends.is in let a = actions_in-answered (logical_state opened) ends.front ends.last in omega (arith, c, l, m, h, a);
+        done = subst (λ (h : List Entry). HasPlayed d opened h [] played) (sym none)
+            (played-answered d opened ends.front ends.last played (subst (λ (h : List Entry). HasPlayed d opened h [] played) (none_old ∙ ends.is) kept.done));
+        timed = tt;
       })
 
   -- a call
@@ -409,7 +411,8 @@ module _ (opened : List ℕ) where
     safe = kept.safe;
     least = kept.least;
     rows = kept.rows;
-    counted = kept.counted;
+    done = kept.done;
+    timed = tt;
   }
 
   -- with no call in flight each word is durable

@@ -1,15 +1,17 @@
 -- What contracts see of a core.
-use Rattle.std.specs.Prelude.{◌≡◌, ◌≢◌, ◌⊎◌, ℕ, Option, Some, None, ◌+◌, true, false, List, [], ◌∷◌, ◌++◌, length, slice_index, All}
+use Rattle.std.specs.Prelude.{◌≡◌, ◌≢◌, ◌⊎◌, ℕ, Option, Some, None, ◌+◌, ◌<◌, ◌≤◌, true, false, List, [], ◌∷◌, ◌++◌, length, slice_index, All}
 use Rattle.mv_model.specs.declared.call.Call.{Call}
 use Rattle.mv_model.specs.declared.call.Call.TheVariants as call
 use Rattle.mv_model.specs.declared.reply.Reply.{Reply}
 use Rattle.mv_model.specs.declared.reply.Reply.TheVariants as reply
 use Rattle.mv_model.specs.declared.reply.Entry.{Entry}
+use Rattle.mv_model.specs.State.{State}
 use Rattle.mv_model.specs.History.{state_after}
 use Rattle.pm_model.specs.declared.action.Action.{Action}
 use Rattle.pm_model.specs.declared.action.Action.TheVariants.{Fence}
 use Rattle.pm_model.specs.Device.{Device, acted}
 use Rattle.image_layout.specs.Fixed.{last_at, commit_word_at}
+use Rattle.engine_core.specs.Actions.{late_in}
 use Rattle.engine_core.specs.Decided.{IsFullWhere}
 use Rattle.engine_core.specs.LogicalState.{logical_state}
 use Rattle.engine_core.specs.declared.decision.Late.{Late}
@@ -118,6 +120,28 @@ IsAnsweredButFor Last history = (given : Reply) × EndsUnanswered given history
 abbrev pub IsDueNext : InFlight → List Entry → List Entry → Type 0
 IsDueNext in_flight history entries =
     (entries ≡ []) ⊎ ((in_flight ≡ Unplaced call.Commit) × ((number : ℕ) × (entries ≡ unanswered (length history + 1) call.Commit (reply.Committed number) ∷ [])))
+
+-- a commit is certain while so many actions are left to play
+abbrev pub IsCertain : State → Reply → ℕ → Type 0
+IsCertain state (reply.Committed number) to_play = to_play ≤ late_in state number
+IsCertain state other to_play = Unit {0}
+
+-- so is the last of these entries, where it is a commit
+abbrev pub EndsCertain : State → List Entry → ℕ → Type 0
+EndsCertain opened entries to_play =
+    (front : List Entry) → (last : Entry) → entries ≡ front ++ last ∷ [] → IsCertain (state_after opened front) last.reply to_play
+
+-- the entry of a commit is due, which comes next in the history: the fence that makes it certain is still to be played
+pub record IsCommitDue (opened : State) (history entries : List Entry) (to_play : ℕ) : Type 0 where
+  pub number : ℕ
+  pub is : entries ≡ unanswered (length history + 1) call.Commit (reply.Committed number) ∷ []
+  pub before : late_in (state_after opened history) number < to_play
+
+-- Of the calls that are decided, a commit is due until the fence that makes it certain was played; each other one is in the
+-- history.
+abbrev pub IsDueAt : State → List Entry → List Entry → ℕ → Type 0
+IsDueAt opened history entries to_play =
+    ((entries ≡ []) × EndsCertain opened history to_play) ⊎ IsCommitDue opened history entries to_play
 
 -- what a step does to the device: one action of the session, or nothing
 abbrev pub ActsOnce : Step → ℕ → Device → Device → Type 0

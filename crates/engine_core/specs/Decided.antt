@@ -12,7 +12,7 @@ use Rattle.pm_model.specs.declared.action.Action.{Action}
 use Rattle.pm_model.specs.PlanState.{PlanState}
 use Rattle.image_layout.specs.Fixed.{last_at, commit_word_at}
 use Rattle.pm_model.specs.Plans.{Part, plan_of, words_after, IsPlan}
-use Rattle.engine_core.specs.Actions.{actions_due, rows_created}
+use Rattle.engine_core.specs.Actions.{late_in, plan_due, rows_created}
 use Rattle.engine_core.specs.Recoverable.{Fits}
 use Rattle.engine_core.specs.StageRules.{IsStage}
 use Rattle.engine_core.specs.Survival.{IsShownWhile, SurvivesCuts}
@@ -50,7 +50,7 @@ pub record IsDecided (words : List ℕ) (before : Transactions) (said : Call) (g
   pub stage : IsStage (words_after actions words) after.running
   pub full : IsFullWhere (state_of words before) given
   pub below : IsRowBelow (next_row_of (state_of (words_after actions words) after) 0) given
-  pub counted : length actions ≡ actions_due (state_of words before) given
+  pub planned : actions ≡ plan_due (state_of words before) said given
   pub short : length actions ≤ 400
   pub begun : after.begun ≤ before.begun + 1
 
@@ -74,12 +74,18 @@ IsPlacedLate words (Some late) said other left = ⊥
 IsPlacedLate words None said (reply.Committed number) left = ⊥
 IsPlacedLate words None said other left = Unit {0}
 
+-- so many actions of a commit's plan come after the fence that makes it certain
+abbrev pub IsLateIn : State → Option Late → Type 0
+IsLateIn state (Some late) = late.left ≡ late_in state late.number
+IsLateIn state None = Unit {0}
+
 -- What a decision has to meet. Its plan survives each cut: what is left fits together, and shows the state before the call or
 -- the one after it.
 pub record IsDecision (words : List ℕ) (before : Transactions) (said : Call) (decision : Decision) : Type 0 where
   pub copied : decision.copy ≡ decision.reply
   pub decided : IsDecided words before said decision.reply (left_of decision.plan) decision.after
   pub late : IsPlacedLate words decision.late said decision.reply (left_of decision.plan)
+  pub timed : IsLateIn (state_of words before) decision.late
   pub survives : Fits words → SurvivesCuts (IsShownWhile (state_of words before) (state_of (words_after (left_of decision.plan) words) decision.after) decision.late) words (left_of decision.plan)
 
 -- the decision that ends a transaction that wrote nothing

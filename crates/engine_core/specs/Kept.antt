@@ -1,21 +1,22 @@
 -- What a core keeps.
 use Rattle.std.specs.Prelude.{◌≡◌, ◌⊎◌, ℕ, ◌+◌, ◌*◌, ◌<◌, ◌≤◌, false, IsTrue, List, [], ◌++◌, length, slice_index, All}
 use Rattle.mv_model.specs.declared.reply.Entry.{Entry}
+use Rattle.mv_model.specs.State.{State}
 use Rattle.mv_model.specs.History.{IsLegal, after, state_after}
 use Rattle.mv_model.specs.View.{next_row_of}
 use Rattle.pm_model.specs.declared.action.Action.{Action}
 use Rattle.pm_model.specs.Device.{Device, IsClean}
-use Rattle.pm_model.specs.Plans.{Play, IsPlaying, plan_of, words_after}
+use Rattle.pm_model.specs.Plans.{Play, IsPlaying, at_rest, plan_of, run, words_after}
 use Rattle.image_layout.specs.Fixed.{last_at, commit_word_at}
 use Rattle.engine_core.specs.LogicalState.{logical_state, state_of}
 use Rattle.engine_core.specs.StageRules.{IsStage}
 use Rattle.engine_core.specs.StagePlans.{commit_late, commit_parts}
 use Rattle.engine_core.specs.Served.{is_served}
-use Rattle.engine_core.specs.Actions.{actions_in}
+use Rattle.engine_core.specs.Actions.{late_in, plan_in}
 use Rattle.engine_core.specs.Decided.{IsRowBelow}
 use Rattle.engine_core.specs.Recoverable.{Fits, IsRecoveryOf}
 use Rattle.engine_core.specs.Survival.{HoldsAtEachCut}
-use Rattle.engine_core.specs.CoreState.{IsAnswered, IsOfOne, due, pending}
+use Rattle.engine_core.specs.CoreState.{EndsCertain, IsAnswered, IsOfOne, due, pending}
 use Rattle.engine_core.specs.declared.flight.Flight.{Flight}
 use Rattle.engine_core.specs.declared.flight.Flight.TheVariants as flight
 use Rattle.engine_core.specs.declared.transactions.Transactions.{Transactions}
@@ -76,6 +77,21 @@ IsRecovered opened history (flight.Placed given) left image = Recovers opened hi
 abbrev pub IsSafe : List ℕ → List Entry → Flight → ℕ → List ℕ → Type 0
 IsSafe opened history in_flight left image = Fits image × IsRecovered opened history in_flight left image
 
+-- So many actions were played since the words were opened, and these are left: together they are the plans of the entries,
+-- one after the other.
+pub record HasPlayed (d : Device) (opened : List ℕ) (entries : List Entry) (left : List Action) (played : ℕ) : Type 0 where
+  pub actions : List Action
+  pub planned : plan_in (logical_state opened) entries ≡ actions ++ left
+  pub count : length actions ≡ played
+  pub device : d ≡ run 1 actions (at_rest opened)
+
+-- how many actions of a commit's plan come after the fence that makes it certain; and it has its place from there on
+abbrev pub IsTimed : State → List Entry → Flight → ℕ → Type 0
+IsTimed opened history flight.Idle left = Unit {0}
+IsTimed opened history (flight.Waiting said) left = Unit {0}
+IsTimed opened history (flight.Committing number late) left = late ≡ late_in (state_after opened history) number
+IsTimed opened history (flight.Placed given) left = EndsCertain opened history left
+
 -- The history is legal from the state that the opened words stand for. The state that it leaves, once a commit that is
 -- decided has its entry, is that of the words as they become once the plan in play was played.
 pub record IsKept (d : Device) (opened : List ℕ) (history : List Entry) (now : Transactions) (left : List Action) (in_flight : Flight) (events_left played started : ℕ) : Type 0 where
@@ -96,4 +112,5 @@ pub record IsKept (d : Device) (opened : List ℕ) (history : List Entry) (now :
   -- no fewer row numbers were given out than at the opening, and each row that was given has one of them
   pub least : next_row_of (logical_state opened) 0 ≤ next_row_of (state_of (words_after left d.cached) now) 0
   pub rows : All (λ entry. IsRowBelow (next_row_of (state_of (words_after left d.cached) now) 0) entry.reply) history
-  pub counted : played + length left ≡ actions_in (logical_state opened) (history ++ due (length history) in_flight)
+  pub done : HasPlayed d opened (history ++ due (length history) in_flight) left played
+  pub timed : IsTimed (logical_state opened) history in_flight (length left)

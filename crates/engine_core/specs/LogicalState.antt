@@ -2,7 +2,7 @@
 use Rattle.std.specs.Prelude.{ℕ, ℤ, zero, suc, ◌+◌, ◌/◌, ◌%◌, ◌^◌, ◌==◌, ◌&&◌, ◌||◌, not, nat_le, nat_lt, max, Bool, if◌then◌else◌, codes, List, [], ◌∷◌, map, filter, Option, option_map, slice_set, slice_index}
 use Rattle.std.specs.List.{range_with_len}
 use Rattle.std.specs.Option.{option_map_or}
-use Rattle.std.specs.Int.{cast_signed}
+use Rattle.std.specs.Int.{cast_signed, cast_unsigned}
 use mir.Syntax.{w64}
 use Rattle.mv_model.specs.declared.value.Value.TheVariants.{Int}
 use Rattle.mv_model.specs.declared.shape.Column.{Column}
@@ -30,6 +30,10 @@ key_of row = record { table = 0; row = row }
 -- the integer that a key word spells: its 64 bits with the sign bit flipped
 abbrev pub integer_of : ℕ → ℤ
 integer_of word = cast_signed w64 ((word + 2 ^ 63) % 2 ^ 64)
+
+-- the word that spells an integer: its 64 bits with the sign bit flipped
+abbrev pub key_word_of : ℤ → ℕ
+key_word_of number = (cast_unsigned w64 number + 2 ^ 63) % 2 ^ 64
 
 -- a row, with the value that stands in the words
 abbrev pub created_row : List ℕ → ℕ → CreatedRow

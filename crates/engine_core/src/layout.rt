@@ -1,7 +1,7 @@
 // The places of the stage image beside those that every image has, and the key words of its values.
 ghost use Rattle.std.specs.Prelude.{◌≡◌, ◌<◌};
 ghost use Rattle.engine_core.specs.Stage.{high_at, born_at, ended_at, value_at};
-ghost use Rattle.engine_core.specs.LogicalState.{integer_of};
+ghost use Rattle.engine_core.specs.LogicalState.{integer_of, key_word_of};
 
 use pm_model::Place;
 
@@ -43,7 +43,8 @@ pub(crate) fn value(row: u32) -> Place
 
 /// The key word of an integer: its 64 bits with the sign bit flipped, so that words are in the order of the integers.
 pub(crate) fn key_word(integer: i64) -> u64
-    ensures { integer_of result ≡ integer }
+    ensures spells { integer_of result ≡ integer }
+    ensures word { result ≡ key_word_of integer }
 {
     integer.cast_unsigned().wrapping_add(SIGN_BIT)
 }

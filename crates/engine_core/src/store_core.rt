@@ -1,12 +1,12 @@
 // A session that steps over the words of a device, one action or one decision at a time.
 ghost use Rattle.mv_model.specs.History.{IsLegal};
 ghost use Rattle.engine_core.specs.LogicalState.{logical_state};
-ghost use Rattle.std.specs.Prelude.{false, ◌≡◌, ◌≢◌, ℕ, ◌+◌, ◌-◌, ◌^◌, ◌<◌, List, [], ◌++◌, None, length, IfOk, IfErr, IsTrue, ◌↔◌};
-ghost use Rattle.engine_core.specs.CoreState.{CoreState, ActsOnce, IsAnsweredButFor, IsDueNext, IsEvent, Last, Nothing, Unplaced};
+ghost use Rattle.std.specs.Prelude.{false, ◌≡◌, ◌≢◌, ℕ, ◌+◌, ◌-◌, ◌^◌, ◌<◌, List, [], ◌++◌, None, length, take, IfOk, IfErr, IsTrue, ◌↔◌};
+ghost use Rattle.engine_core.specs.CoreState.{CoreState, ActsOnce, IsAnsweredButFor, IsDueAt, IsDueNext, IsEvent, Last, Nothing, Unplaced};
 ghost use Rattle.engine_core.specs.declared.flight.Step.TheVariants.{Decided, Played, Replied};
 ghost use Rattle.pm_model.specs.Device.{IsCrashImage};
 ghost use Rattle.pm_model.specs.Plans.{at_rest, plan_of, run};
-ghost use Rattle.engine_core.specs.Actions.{actions_in};
+ghost use Rattle.engine_core.specs.Actions.{plan_in};
 ghost use Rattle.engine_core.specs.Opening.{opening_fault, opening_parts, recovered};
 ghost use Rattle.engine_core.specs.Opened.{IsRefusal};
 ghost use Rattle.engine_core.specs.Recoverable.{IsRecoverable, MayRecoverTo, undecided};
@@ -179,6 +179,7 @@ impl<M: Memory> Core<M> {
         ensures legal { IsLegal (logical_state self.now.opened) self.now.history }
         ensures answered { IsAnsweredButFor self.now.in_flight self.now.history }
         ensures due { IsDueNext self.now.in_flight self.now.history self.now.due }
+        ensures certain { IsDueAt (logical_state self.now.opened) self.now.history self.now.due self.now.to_play }
         ensures legal_due { IsLegal (logical_state self.now.opened) (self.now.history ++ self.now.due) }
     {
         self.history.as_slice()
@@ -186,9 +187,12 @@ impl<M: Memory> Core<M> {
 
     /// The device. Whatever image a power cut leaves of it now is recoverable, and stands for a state that may be recovered:
     /// the one that the history leaves, or also the commit that is due, while its commit word is stored and not durable.
-    /// With no call in flight each word is durable.
+    /// With no call in flight each word is durable. The actions that were played are the first of the plans of the history
+    /// and of the commit that is due, one after the other.
     pub fn memory(&self) -> &M
         ensures memory { result.now ≡ self.now.memory }
+        ensures device { M.device self.now.memory ≡ run 1
+            (take self.now.played (plan_in (logical_state self.now.opened) (self.now.history ++ self.now.due))) (at_rest self.now.opened) }
         ensures recoverable { (image : List ℕ) → IsCrashImage (M.device self.now.memory) image → IsRecoverable image }
         ensures may_recover_to { (image : List ℕ) → IsCrashImage (M.device self.now.memory) image → MayRecoverTo (logical_state self.now.opened) self.now.history (undecided (M.device self.now.memory) self.now.due) (logical_state image) }
         ensures rests { self.now.in_flight ≡ Nothing → (M.device self.now.memory).durable ≡ (M.device self.now.memory).cached }
@@ -207,7 +211,7 @@ impl<M: Memory> Core<M> {
     /// the commit that is due.
     pub fn played(&self) -> u64
         ensures played { result ≡ self.now.played }
-        ensures counted { self.now.played + self.now.to_play ≡ actions_in (logical_state self.now.opened) (self.now.history ++ self.now.due) }
+        ensures counted { self.now.played + self.now.to_play ≡ length (plan_in (logical_state self.now.opened) (self.now.history ++ self.now.due)) }
     {
         self.played
     }

@@ -1,5 +1,5 @@
 -- What is known of a run when it ends.
-use Rattle.std.proofs.Common.{◌≡◌, ◌≢◌, ◌⊎◌, inl, inr, ℕ, ◌+◌, ◌∙◌, false, List, [], ◌∷◌, ◌++◌, length, Option, None, Some, refl, ap, sym, subst, append-nil, append_assoc, arith}
+use Rattle.std.proofs.Common.{◌≡◌, ◌≢◌, ◌⊎◌, inl, inr, ℕ, ◌+◌, ◌∙◌, false, List, [], ◌∷◌, ◌++◌, length, take, Option, None, Some, refl, ap, sym, subst, append-nil, append_assoc, arith}
 use Rattle.mv_model.specs.declared.call.Call.{Call}
 use Rattle.mv_model.specs.declared.call.Call.TheVariants as call
 use Rattle.mv_model.specs.declared.reply.Reply.TheVariants as reply
@@ -10,8 +10,8 @@ use Rattle.pm_model.specs.declared.action.Keep.{Keep}
 use Rattle.pm_model.specs.Device.{Device, IsCrashImage, image_of}
 use Rattle.pm_model.specs.Plans.{at_rest, run}
 use Rattle.pm_image.specs.Spelling.{spelling}
-use Rattle.engine_core.specs.Actions.{actions_in}
-use Rattle.engine_core.specs.CoreState.{CoreState, InFlight, IsDueNext, Nothing, Unplaced, Last, unanswered}
+use Rattle.engine_core.specs.Actions.{plan_in}
+use Rattle.engine_core.specs.CoreState.{CoreState, InFlight, IsDueAt, IsDueNext, Nothing, Unplaced, Last, unanswered}
 use Rattle.engine_core.specs.LogicalState.{logical_state}
 use Rattle.engine_core.specs.Opening.{opening_fault, recovered}
 use Rattle.engine_core.specs.Recoverable.{IsRecoverable, MayRecoverTo, undecided}
@@ -22,7 +22,7 @@ use Rattle.session_serve.specs.Moments.{AreFullWhere, IsFirstAt, IsFrontOf, IsRu
 use Rattle.session_serve.specs.declared.playing.Ending.{Ending}
 use Rattle.session_serve.specs.declared.playing.Ending.TheVariants as ending
 use Rattle.session_serve.specs.Parts.{LeavesBy, kept_by}
-use Rattle.session_serve.specs.Playing.{said_in, EndsLines, IsBefore, IsCounted, IsFresh, IsInCall, Plays, StopsAtOnce, StopsInLine, moment_of}
+use Rattle.session_serve.specs.Playing.{said_in, EndsLines, IsBefore, IsCounted, IsFresh, IsInCall, StopsAtOnce, StopsInLine, moment_of}
 use Rattle.session_serve.specs.Runs.{Finishes, IsCutOff}
 use Rattle.session_serve.proofs.Lines.{full-more, same-more, statements_of-append}
 
@@ -31,17 +31,17 @@ pub record IsKnown {M : Type 0} (d : Device) (core : CoreState M) : Type 0 where
   pub legal : IsLegal (logical_state core.opened) core.history
   pub legal_due : IsLegal (logical_state core.opened) (core.history ++ core.due)
   pub due_is : IsDueNext core.in_flight core.history core.due
+  pub due_at : IsDueAt (logical_state core.opened) core.history core.due core.to_play
+  pub device : d ≡ run 1 (take core.played (plan_in (logical_state core.opened) (core.history ++ core.due))) (at_rest core.opened)
   pub recoverable : (image : List ℕ) → IsCrashImage d image → IsRecoverable image
   pub may_recover_to : (image : List ℕ) → IsCrashImage d image → MayRecoverTo (logical_state core.opened) core.history (undecided d core.due) (logical_state image)
   pub rests : core.in_flight ≡ Nothing → d.durable ≡ d.cached
 
--- a fresh core over a device at rest, and what it became
-pub record HasCome {M : Type 0} (words : List ℕ) (d e : Device) (before after : CoreState M) : Type 0 where
-  pub fresh : IsFresh before
-  pub at_start : d ≡ at_rest before.opened
+-- what a core that was opened became
+pub record HasCome {M : Type 0} (words : List ℕ) (e : Device) (before after : CoreState M) : Type 0 where
   pub accepted : opening_fault words ≡ None
   pub opened : before.opened ≡ recovered words
-  pub plays : Plays d e before after
+  pub same : after.opened ≡ before.opened
   pub known : IsKnown e after
 
 -- the call that is in flight is the last that was decided
@@ -90,22 +90,21 @@ full-in_call opened said front history Nothing some in_call full = absurd (some 
 full-in_call opened said front history (Unplaced other) some in_call full = subst (AreFullWhere opened) (sym in_call.1) full
 full-in_call opened said front history Last some in_call full = subst (AreFullWhere opened) (sym in_call.is) (full-more opened front in_call.entry full in_call.full)
 
-module _ {M : Type 0} (words : List ℕ) (d e : Device) (before after : CoreState M) (come : HasCome words d e before after) where
+module _ {M : Type 0} (words : List ℕ) (e : Device) (before after : CoreState M) (come : HasCome words e before after) where
   run-at : (script : List Line) (number : ℕ) → after.played ≡ number → IsCounted after
       → ((session : ℕ) → IsFrontOf (calls_of session (after.history ++ after.due)) (statements_of session script))
       → AreFullWhere (logical_state after.opened) after.history
       → IsRun words script number (moment_of e after)
   run-at script number reached counted said full = record {
     accepted = come.accepted;
-    opened = come.plays.opened ∙ come.opened;
+    opened = come.same ∙ come.opened;
     legal = come.known.legal;
     legal_due = come.known.legal_due;
     said = said;
     full = full;
-    actions = come.plays.actions;
-    count = omega (arith, come.plays.played, come.fresh.played, reached);
-    device = come.plays.device ∙ ap (run 1 come.plays.actions) (come.at_start ∙ ap at_rest (sym come.plays.opened));
-    counted = subst (λ (played : ℕ). played + after.to_play ≡ actions_in (logical_state after.opened) (after.history ++ after.due)) reached counted;
+    due_is = come.known.due_at;
+    counted = subst (λ (played : ℕ). played + after.to_play ≡ length (plan_in (logical_state after.opened) (after.history ++ after.due))) reached counted;
+    device = subst (λ (played : ℕ). e ≡ run 1 (take played (plan_in (logical_state after.opened) (after.history ++ after.due))) (at_rest after.opened)) reached come.known.device;
     recoverable = come.known.recoverable;
     may_recover_to = come.known.may_recover_to;
   }
@@ -154,7 +153,7 @@ module _ {M : Type 0} (words : List ℕ) (d e : Device) (before after : CoreStat
   in_line-run script number stops =
       let opened = logical_state after.opened in
       let more : after.history ++ after.due ≡ stops.front → ⊥ =
-      λ same. let count : actions_in opened (after.history ++ after.due) ≡ actions_in opened stops.front = ap (actions_in opened) same in
+      λ same. let count : length (plan_in opened (after.history ++ after.due)) ≡ length (plan_in opened stops.front) = ap (λ (entries : List Entry). length (plan_in opened entries)) same in
       omega (arith, stops.counted, stops.before, stops.reached, count) in
       let last = last-call opened (said_in stops.line) stops.front after.history after.due after.in_flight stops.in_flight stops.in_call come.known.due_is more in
       let split : script ≡ (stops.so_far ++ stops.line ∷ []) ++ stops.rest = stops.lines_are ∙ sym (append_assoc stops.so_far (stops.line ∷ []) stops.rest) in (

@@ -1,4 +1,4 @@
--- What an event does to a call in flight, and to what was played.
+-- What an event does to a call in flight.
 use Rattle.std.proofs.Common.{◌≡◌, ◌≢◌, ◌⊎◌, inl, inr, ℕ, ◌+◌, ◌<◌, ◌≤◌, ◌∙◌, Bool, true, false, List, [], ◌∷◌, ◌++◌, length, Option, None, Some, refl, ap, sym, subst, append-nil, append_assoc, length-append, arith}
 use Rattle.std.proofs.lemmas.List.{same_from_push}
 use Rattle.mv_model.specs.declared.call.Call.{Call}
@@ -7,43 +7,14 @@ use Rattle.mv_model.specs.declared.reply.Reply.{Reply}
 use Rattle.mv_model.specs.declared.reply.Entry.{Entry}
 use Rattle.mv_model.specs.State.{State}
 use Rattle.mv_model.specs.History.{state_after}
-use Rattle.pm_model.specs.declared.action.Action.{Action}
-use Rattle.pm_model.specs.Device.{Device, acted}
-use Rattle.pm_model.specs.Plans.{run}
+use Rattle.pm_model.specs.Device.{Device}
 use Rattle.engine_core.specs.Decided.{IsFullWhere}
-use Rattle.engine_core.specs.CoreState.{CoreState, InFlight, Nothing, Unplaced, Last, ActsOnce, GetsEntry, IsEvent, Moves, Stays, actions_of, answered, unanswered}
+use Rattle.engine_core.specs.CoreState.{CoreState, InFlight, Nothing, Unplaced, Last, GetsEntry, IsEvent, Moves, Stays, actions_of, answered, unanswered}
 use Rattle.engine_core.specs.declared.flight.Step.{Step}
 use Rattle.engine_core.specs.declared.flight.Step.TheVariants.{Played, Decided, Blocked, Replied}
 use Rattle.engine_core.specs.LogicalState.{logical_state}
 use Rattle.mv_model.specs.declared.reply.Reply.TheVariants as reply
-use Rattle.session_serve.specs.Playing.{HasEntry, IsBefore, IsInCall, Plays, WasGiven, WasNotGiven}
-
--- ── actions ──
-
-pub run-append : (actions more : List Action) (d : Device) → run 1 (actions ++ more) d ≡ run 1 more (run 1 actions d)
-run-append [] more d = refl
-run-append (action ∷ actions) more d = run-append actions more (acted 1 action d)
-
-module _ {M : Type 0} where
-  pub plays-none : (d : Device) (core : CoreState M) → Plays d d core core
-  plays-none d core = record { actions = []; device = refl; played = omega arith; opened = refl }
-
-  pub plays-on : (d e f : Device) (before mid after : CoreState M) → Plays d e before mid → Plays e f mid after → Plays d f before after
-  plays-on d e f before mid after first second =
-      let size = length-append first.actions second.actions in
-      record {
-        actions = first.actions ++ second.actions;
-        device = second.device ∙ ap (run 1 second.actions) first.device ∙ sym (run-append first.actions second.actions d);
-        played = omega (arith, first.played, second.played, size);
-        opened = second.opened ∙ first.opened;
-      }
-
-  -- an event plays one action or none
-  pub plays-event : (step : Step) (d e : Device) (before after : CoreState M) → ActsOnce step 1 d e → IsEvent step d e before after → Plays d e before after
-  plays-event Played d e before after acts event = record { actions = acts.0 ∷ []; device = acts.1; played = event.played; opened = event.opened }
-  plays-event Decided d e before after acts event = record { actions = []; device = acts; played = event.played; opened = event.opened }
-  plays-event (Blocked holder) d e before after acts event = record { actions = []; device = acts; played = event.played; opened = event.opened }
-  plays-event (Replied given) d e before after acts event = record { actions = []; device = acts; played = event.played; opened = event.opened }
+use Rattle.session_serve.specs.Playing.{HasEntry, IsBefore, IsInCall, WasGiven, WasNotGiven}
 
 -- ── the call in flight ──
 

@@ -5,3 +5,4 @@ pub mod Endings
 pub mod Writes
 pub mod Served
 pub mod Due
+pub mod Dues

@@ -11,8 +11,7 @@ use Rattle.mv_model.specs.declared.reply.Entry.{Entry}
 use Rattle.mv_model.specs.State.{State}
 use Rattle.mv_model.specs.Next.{next}
 use Rattle.mv_model.specs.History.{entries_of, state_after}
-use Rattle.pm_model.specs.Device.{Device}
-use Rattle.engine_core.specs.Actions.{actions_in}
+use Rattle.engine_core.specs.Actions.{plan_in}
 use Rattle.engine_core.specs.Decided.{IsFullWhere}
 use Rattle.engine_core.specs.CoreState.{CoreState, InFlight}
 use Rattle.engine_core.specs.LogicalState.{logical_state}
@@ -23,7 +22,7 @@ use Rattle.built_calls.specs.Built.{is_built}
 use Rattle.script_text.specs.Script.{IsBuiltLine, asked_by, statements_of}
 use Rattle.session_serve.specs.Moments.{AreFullWhere, calls_of}
 use Rattle.session_serve.specs.declared.playing.Ending.TheVariants as ending
-use Rattle.session_serve.specs.Playing.{said_in, EndsCall, HasEntry, HasRun, IsBefore, IsCounted, IsFresh, IsInCall, Plays, StopsInLine, WasGiven}
+use Rattle.session_serve.specs.Playing.{said_in, EndsCall, HasEntry, HasRun, IsBefore, IsCounted, IsFresh, IsInCall, StopsInLine, WasGiven}
 
 -- ── calls and statements ──
 
@@ -102,11 +101,11 @@ none_or (line ∷ lines) P some = inr (some (λ e. cc))
 
 module _ {M : Type 0} where
   -- one line more was answered
-  pub line-more : (d e : Device) (cut : Option ℕ) (lines : List Line) (next : Line) (before after : CoreState M) → HasRun lines before → IsBuiltLine next → Plays d e before after
+  pub line-more : (cut : Option ℕ) (lines : List Line) (next : Line) (before after : CoreState M) → HasRun lines before → IsBuiltLine next → after.opened ≡ before.opened
       → after.started ≡ before.started + 1 → IsCounted after
       → IsInCall (logical_state before.opened) (said_in next) before.history after.in_flight after.history
       → EndsCall ending.Finished cut after → HasRun (lines ++ next ∷ []) after
-  line-more d e cut lines next before after ran built plays started counted in_call ends =
+  line-more cut lines next before after ran built opened started counted in_call ends =
       let got : HasEntry (logical_state before.opened) (said_in next) before.history after.history WasGiven =
       subst (λ (in_flight : InFlight). IsInCall (logical_state before.opened) (said_in next) before.history in_flight after.history) ends.0 in_call in
       let size = length-append lines (next ∷ []) in
@@ -118,25 +117,26 @@ module _ {M : Type 0} where
         started = omega (arith, started, ran.started, size);
         said = λ session. ap (calls_of session) got.is ∙ same-more session lines next before.history got.entry built got.session got.call (ran.said session);
         answered = subst (λ (entries : List Entry). All WasGiven entries) (sym got.is) (given-more before.history got.entry ran.answered got.given);
-        full = subst (λ (words : List ℕ). AreFullWhere (logical_state words) after.history) (sym plays.opened)
+        full = subst (λ (words : List ℕ). AreFullWhere (logical_state words) after.history) (sym opened)
             (subst (λ (entries : List Entry). AreFullWhere (logical_state before.opened) entries) (sym got.is) (full-more (logical_state before.opened) before.history got.entry ran.full got.full));
       }
 
   -- what the answered calls have played
-  pub played-between : (lines : List Line) (core : CoreState M) → HasRun lines core → actions_in (logical_state core.opened) core.history ≡ core.played
+  pub played-between : (lines : List Line) (core : CoreState M) → HasRun lines core → length (plan_in (logical_state core.opened) core.history) ≡ core.played
   played-between lines core ran =
       let none : core.history ++ core.due ≡ core.history = ap (λ (due : List Entry). core.history ++ due) ran.due ∙ append-nil core.history in
-      let same : actions_in (logical_state core.opened) (core.history ++ core.due) ≡ actions_in (logical_state core.opened) core.history = ap (actions_in (logical_state core.opened)) none in
+      let same : length (plan_in (logical_state core.opened) (core.history ++ core.due)) ≡ length (plan_in (logical_state core.opened) core.history) =
+      ap (λ (entries : List Entry). length (plan_in (logical_state core.opened) entries)) none in
       omega (arith, ran.counted, ran.to_play, same)
 
   -- the cut came within a line
-  pub line-cut : (d e : Device) (cut : Option ℕ) (lines rest : List Line) (next : Line) (before after : CoreState M) → HasRun lines before → IsBuiltLine next → Plays d e before after
+  pub line-cut : (cut : Option ℕ) (lines rest : List Line) (next : Line) (before after : CoreState M) → HasRun lines before → IsBuiltLine next → after.opened ≡ before.opened
       → IsCounted after → IsInCall (logical_state before.opened) (said_in next) before.history after.in_flight after.history
       → IsBefore cut before.played → EndsCall ending.Cut cut after → StopsInLine after.played (lines ++ next ∷ rest) after
-  line-cut d e cut lines rest next before after ran built plays counted in_call still ends =
+  line-cut cut lines rest next before after ran built opened counted in_call still ends =
       let early : before.played < after.played = subst (λ (cut : Option ℕ). IsBefore cut before.played) ends.1 still in
-      let same : actions_in (logical_state after.opened) before.history ≡ before.played =
-      ap (λ (words : List ℕ). actions_in (logical_state words) before.history) plays.opened ∙ played-between lines before ran in
+      let same : length (plan_in (logical_state after.opened) before.history) ≡ before.played =
+      ap (λ (words : List ℕ). length (plan_in (logical_state words) before.history)) opened ∙ played-between lines before ran in
       record {
         so_far = lines;
         line = next;
@@ -146,8 +146,8 @@ module _ {M : Type 0} where
         front = before.history;
         said = ran.said;
         answered = ran.answered;
-        full = subst (λ (words : List ℕ). AreFullWhere (logical_state words) before.history) (sym plays.opened) ran.full;
-        in_call = subst (λ (words : List ℕ). IsInCall (logical_state words) (said_in next) before.history after.in_flight after.history) (sym plays.opened) in_call;
+        full = subst (λ (words : List ℕ). AreFullWhere (logical_state words) before.history) (sym opened) ran.full;
+        in_call = subst (λ (words : List ℕ). IsInCall (logical_state words) (said_in next) before.history after.in_flight after.history) (sym opened) in_call;
         in_flight = ends.0;
         counted = counted;
         before = omega (arith, early, same);

@@ -1,5 +1,5 @@
 -- A run of a script over an image, at one moment.
-use Rattle.std.specs.Prelude.{ℕ, ◌≡◌, ◌≢◌, ◌⊎◌, ◌+◌, ◌<◌, true, false, List, [], ◌∷◌, ◌++◌, All, length, map, Option, None, Some}
+use Rattle.std.specs.Prelude.{ℕ, ◌≡◌, ◌≢◌, ◌⊎◌, ◌+◌, ◌<◌, true, false, List, [], ◌∷◌, ◌++◌, All, length, map, take, Option, None, Some}
 use Rattle.mv_model.specs.declared.call.Call.{Call}
 use Rattle.mv_model.specs.declared.reply.Entry.{Entry}
 use Rattle.mv_model.specs.State.{State}
@@ -8,7 +8,8 @@ use Rattle.mv_model.specs.Next.{next}
 use Rattle.pm_model.specs.declared.action.Action.{Action}
 use Rattle.pm_model.specs.Device.{Device, IsCrashImage}
 use Rattle.pm_model.specs.Plans.{at_rest, run}
-use Rattle.engine_core.specs.Actions.{actions_in}
+use Rattle.engine_core.specs.Actions.{plan_in}
+use Rattle.engine_core.specs.CoreState.{IsDueAt}
 use Rattle.engine_core.specs.Decided.{IsFullWhere}
 use Rattle.engine_core.specs.LogicalState.{logical_state}
 use Rattle.engine_core.specs.Opening.{opening_fault, recovered}
@@ -29,6 +30,10 @@ pub record Moment : Type 0 where
 abbrev pub decided : Moment → List Entry
 decided m = m.history ++ m.due
 
+-- their plans, one after the other
+abbrev pub planned : Moment → List Action
+planned m = plan_in (logical_state m.opened) (decided m)
+
 -- the calls that a session said, in its order
 abbrev pub calls_of : ℕ → List Entry → List Call
 calls_of session entries = map (λ entry. entry.call) (entries_of session entries)
@@ -44,8 +49,10 @@ AreFullWhere state (entry ∷ entries) =
     IsFullWhere state entry.reply × AreFullWhere (next state entry.session entry.call entry.reply) entries
 
 -- The moment is one of a run of the script over the image of these words, when so many actions were played. The history is
--- legal from the state that the opened words stand for, and the calls are those of the script. Whatever image a power cut
--- leaves at this moment, opening it gives the commits whose commit word is durable.
+-- legal from the state that the opened words stand for, and the calls are those of the script. A commit is due until the
+-- fence that makes it certain was played; each other call that is decided is in the history. The actions that were played
+-- are the first of the plans of these calls, and the device is what they make of the opened words. Whatever image a power
+-- cut leaves at this moment, opening it gives the commits whose commit word is durable.
 pub record IsRun (words : List ℕ) (script : List Line) (played : ℕ) (m : Moment) : Type 0 where
   pub accepted : opening_fault words ≡ None
   pub opened : m.opened ≡ recovered words
@@ -53,10 +60,9 @@ pub record IsRun (words : List ℕ) (script : List Line) (played : ℕ) (m : Mom
   pub legal_due : IsLegal (logical_state m.opened) (decided m)
   pub said : (session : ℕ) → IsFrontOf (calls_of session (decided m)) (statements_of session script)
   pub full : AreFullWhere (logical_state m.opened) m.history
-  pub actions : List Action
-  pub count : length actions ≡ played
-  pub device : m.device ≡ run 1 actions (at_rest m.opened)
-  pub counted : played + m.to_play ≡ actions_in (logical_state m.opened) (decided m)
+  pub due_is : IsDueAt (logical_state m.opened) m.history m.due m.to_play
+  pub counted : played + m.to_play ≡ length (planned m)
+  pub device : m.device ≡ run 1 (take played (planned m)) (at_rest m.opened)
   pub recoverable : (image : List ℕ) → IsCrashImage m.device image → IsRecoverable image
   pub may_recover_to : (image : List ℕ) → IsCrashImage m.device image
       → MayRecoverTo (logical_state m.opened) m.history (undecided m.device m.due) (logical_state image)
@@ -81,7 +87,7 @@ pub record EndsInCall (opened : State) (number : ℕ) (entries : List Entry) : T
   pub is : entries ≡ front ++ last ∷ []
   pub given_before : All (λ entry. entry.answered ≡ true) front
   pub open_still : last.answered ≡ false
-  pub before : actions_in opened front < number
+  pub before : length (plan_in opened front) < number
 
 -- The moment is the first one at which so many actions were played and a statement has no reply: before the first statement
 -- where that is none, and else within a call.

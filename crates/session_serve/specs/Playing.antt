@@ -4,10 +4,8 @@ use Rattle.mv_model.specs.declared.call.Call.{Call}
 use Rattle.mv_model.specs.declared.reply.Entry.{Entry}
 use Rattle.mv_model.specs.State.{State}
 use Rattle.mv_model.specs.History.{state_after}
-use Rattle.pm_model.specs.declared.action.Action.{Action}
 use Rattle.pm_model.specs.Device.{Device}
-use Rattle.pm_model.specs.Plans.{run}
-use Rattle.engine_core.specs.Actions.{actions_in}
+use Rattle.engine_core.specs.Actions.{plan_in}
 use Rattle.engine_core.specs.Decided.{IsFullWhere}
 use Rattle.engine_core.specs.CoreState.{CoreState, InFlight, Nothing, Unplaced, Last}
 use Rattle.engine_core.specs.LogicalState.{logical_state}
@@ -29,16 +27,9 @@ abbrev pub moment_of : {M : Type 0} → Device → CoreState M → Moment
 moment_of d core =
     record { opened = core.opened; history = core.history; due = core.due; to_play = core.to_play; device = d }
 
--- from one moment to a later one session 1 has played actions, as many as were counted
-pub record Plays {M : Type 0} (d e : Device) (before after : CoreState M) : Type 0 where
-  pub actions : List Action
-  pub device : e ≡ run 1 actions d
-  pub played : after.played ≡ before.played + length actions
-  pub opened : after.opened ≡ before.opened
-
--- what was played and is left to play is what the calls play
+-- what was played and is left to play is as long as the plans of the calls
 abbrev pub IsCounted : {M : Type 0} → CoreState M → Type 0
-IsCounted core = core.played + core.to_play ≡ actions_in (logical_state core.opened) (core.history ++ core.due)
+IsCounted core = core.played + core.to_play ≡ length (plan_in (logical_state core.opened) (core.history ++ core.due))
 
 -- the cut is still to come
 abbrev pub IsBefore : Option ℕ → ℕ → Type 0
@@ -97,7 +88,7 @@ pub record StopsInLine {M : Type 0} (number : ℕ) (lines : List Line) (core : C
   pub in_call : IsInCall (logical_state core.opened) (said_in line) front core.in_flight core.history
   pub in_flight : core.in_flight ≢ Nothing
   pub counted : IsCounted core
-  pub before : actions_in (logical_state core.opened) front < number
+  pub before : length (plan_in (logical_state core.opened) front) < number
   pub reached : core.played ≡ number
 
 -- a core that was just opened

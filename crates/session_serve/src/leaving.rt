@@ -1,8 +1,6 @@
 // What a run leaves: the bytes of an image and of a text.
 ghost use Rattle.std.specs.Prelude.{◌≡◌, ◌≤◌, ◌%◌, ℕ, List, None, length, All, IfOk, IfErr};
 ghost use Rattle.pm_model.specs.Device.{IsCrashImage, image_of};
-ghost use Rattle.pm_model.specs.Plain.{device_of};
-ghost use Rattle.pm_model.specs.Plans.{at_rest};
 ghost use Rattle.pm_image.specs.Spelling.{IsImage, spelling};
 ghost use Rattle.engine_core.specs.Opened.{IsRefusal};
 ghost use Rattle.engine_core.specs.Opening.{opening_fault, recovered};
@@ -55,7 +53,6 @@ fn play_core<M: Memory>(
 ) -> Result<Left, NoMemory>
     requires built { All IsBuiltLine script }
     requires fresh { IsFresh core.old }
-    requires rests { M.device core.old.memory ≡ at_rest core.old.opened }
     ensures { IfOk result (λ left. (words : List ℕ) → opening_fault words ≡ None → core.old.opened ≡ recovered words
         → LeavesBy left.ending cut keep words script left.image.items left.text.items) }
 {
@@ -74,7 +71,6 @@ fn open(alloc: Global, words: Vec<u64>) -> Result<Core<Plain>, OpenError>
     requires { IsImage words.items }
     ensures fresh { IfOk result (λ core. IsFresh core) }
     ensures opened { IfOk result (λ core. core.opened ≡ recovered words.items) }
-    ensures rests { IfOk result (λ core. device_of core.memory ≡ at_rest core.opened) }
     ensures accepted { IfOk result (λ core. opening_fault words.items ≡ None) }
     ensures refused { IfErr result (λ error. IsRefusal error (opening_fault words.items)) }
 {

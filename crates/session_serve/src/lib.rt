@@ -2,6 +2,7 @@
 //! script that are read, and the image and the printed history that are written.
 #![tactic(auto)]
 
+mod laws;
 mod leaving;
 mod playing;
 mod serving;
@@ -10,6 +11,7 @@ mod status;
 mod tests;
 mod words;
 
+pub use laws::due_law;
 pub use serving::run;
 pub use status::{Status, status_text};
 pub use words::{Command, Job, Paths, WordsError, read_words};

@@ -7,7 +7,7 @@ ghost use Rattle.engine_core.specs.CoreState.{Nothing, Unplaced};
 ghost use Rattle.engine_core.specs.LogicalState.{logical_state};
 ghost use Rattle.engine_core.specs.Served.{is_served};
 ghost use Rattle.script_text.specs.Script.{IsBuiltLine};
-ghost use Rattle.session_serve.specs.Playing.{said_in, EndsCall, EndsLines, HasRun, IsBefore, IsCounted, IsFresh, IsInCall, Plays};
+ghost use Rattle.session_serve.specs.Playing.{said_in, EndsCall, EndsLines, HasRun, IsBefore, IsCounted, IsFresh, IsInCall};
 
 use engine_core::Core;
 use mv_model::{Call, NoMemory};
@@ -35,7 +35,7 @@ fn is_cut_at(cut: Option<u64>, played: u64) -> bool
 /// One event of the call in flight.
 fn go_on<M: Memory>(core: &mut Core<M>)
     requires { core.old.in_flight ≢ Nothing }
-    ensures plays { Plays (M.device core.old.memory) (M.device core.new.memory) core.old core.new }
+    ensures opened { core.new.opened ≡ core.old.opened }
     ensures started { core.new.started ≡ core.old.started }
     ensures events { core.new.events_left + 1 ≡ core.old.events_left }
     ensures most { core.new.played ≤ core.old.played + 1 }
@@ -52,7 +52,7 @@ fn run_call<M: Memory>(core: &mut Core<M>, cut: Option<u64>) -> Ending
     requires before { IsBefore cut core.old.played }
     requires counted { IsCounted core.old }
     requires idle { core.old.in_flight ≢ Nothing }
-    ensures plays { Plays (M.device core.old.memory) (M.device core.new.memory) core.old core.new }
+    ensures opened { core.new.opened ≡ core.old.opened }
     ensures started { core.new.started ≡ core.old.started }
     ensures in_call { (said : Said) → core.old.in_flight ≡ Unplaced said
         → IsInCall (logical_state core.old.opened) said core.old.history core.new.in_flight core.new.history }
@@ -75,7 +75,7 @@ fn run_said<M: Memory>(core: &mut Core<M>, said: Call, cut: Option<u64>) -> Resu
     requires room { core.old.started < 2 ^ 32 - 1 }
     requires before { IsBefore cut core.old.played }
     requires counted { IsCounted core.old }
-    ensures plays { Plays (M.device core.old.memory) (M.device core.new.memory) core.old core.new }
+    ensures opened { core.new.opened ≡ core.old.opened }
     ensures started { IfOk result (λ _. core.new.started ≡ core.old.started + 1) }
     ensures in_call { IfOk result (λ _. IsInCall (logical_state core.old.opened) said core.old.history core.new.in_flight core.new.history) }
     ensures counted { IfOk result (λ _. IsCounted core.new) }
@@ -92,7 +92,7 @@ fn run_line<M: Memory>(core: &mut Core<M>, line: Line, cut: Option<u64>) -> Resu
     requires room { core.old.started < 2 ^ 32 - 1 }
     requires before { IsBefore cut core.old.played }
     requires counted { IsCounted core.old }
-    ensures plays { Plays (M.device core.old.memory) (M.device core.new.memory) core.old core.new }
+    ensures opened { core.new.opened ≡ core.old.opened }
     ensures started { IfOk result (λ _. core.new.started ≡ core.old.started + 1) }
     ensures in_call { IfOk result (λ _. IsInCall (logical_state core.old.opened) (said_in line) core.old.history core.new.in_flight core.new.history) }
     ensures counted { IfOk result (λ _. IsCounted core.new) }
@@ -114,7 +114,7 @@ fn run_lines<M: Memory>(
     requires fits { length lines.items < 2 ^ 32 }
     requires run { HasRun [] core.old }
     requires before { lines.items ≢ [] → IsBefore cut core.old.played }
-    ensures plays { Plays (M.device core.old.memory) (M.device core.new.memory) core.old core.new }
+    ensures opened { core.new.opened ≡ core.old.opened }
     ensures ends { IfOk result (λ ending. EndsLines ending cut lines.items core.new) }
 {
     for line in lines {
@@ -134,7 +134,7 @@ pub(crate) fn run_core<M: Memory>(
 ) -> Result<Ending, NoMemory>
     requires built { All IsBuiltLine script }
     requires fresh { IsFresh core.old }
-    ensures plays { Plays (M.device core.old.memory) (M.device core.new.memory) core.old core.new }
+    ensures opened { core.new.opened ≡ core.old.opened }
     ensures ends { IfOk result (λ ending. EndsLines ending cut script core.new) }
 {
     if is_cut_at(cut, core.played()) && !script.is_empty() {

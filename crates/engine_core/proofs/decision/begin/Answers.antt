@@ -12,5 +12,6 @@ returns g c =
       copied = c.in_ok-copy.ensures;
       decided = decided;
       late = tt;
+      timed = tt;
       survives = begin-survives words c.args.begun (c.args.begun + 1) c.load.result c.in_ok-plan_begin.field-0.left _ c.requires.stage c.in_ok-plan_begin.ensures decided;
     }

@@ -27,11 +27,12 @@ returns g c =
     let few : c.args.own.rows < 60 = omega (arith, c.from.ensures, c.if-own-from.false) in
     let fewer : c.load.result + c.args.own.rows < 4096 = omega (arith, c.if-row-ge-STAGE_ROWS.false) in
     let decided = insert-decided words c.args.begun c.args.own.number c.args.own.rows c.requires (c.load.result + c.args.own.rows) c.key_word.result is_row few fewer c.args.number c.in_ok-plan_insert.field-0.left
-    (simp to_z-of_z at c.key_word.ensures) c.in_ok-plan_insert.ensures.left (omega (arith, c.in_ok-plan_insert.ensures.actions)) in
+    (simp to_z-of_z at c.key_word.ensures.spells) (simp to_z-of_z at c.key_word.ensures.word) c.in_ok-plan_insert.ensures.left (omega (arith, c.in_ok-plan_insert.ensures.actions)) in
     record {
       copied = c.in_ok-copy.ensures;
       decided = decided;
       late = tt;
+      timed = tt;
       survives = insert-survives words c.args.begun c.args.own (c.load.result + c.args.own.rows) c.key_word.result c.args.number c.in_ok-plan_insert.field-0.left _ c.requires is_row few fewer
           c.in_ok-plan_insert.ensures.left decided;
     }

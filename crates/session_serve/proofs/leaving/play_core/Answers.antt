@@ -5,17 +5,17 @@ use Rattle.session_serve.proofs.leaving.play_core.Goals as goal
 
 pub returns : goal.returns
 returns g c = λ words accepted opened.
-    leaves words (g.M.Memory.device c.args.core.now.memory) (g.M.Memory.device c.run_core.new.core.memory) c.args.core.now c.run_core.new.core
+    leaves words (g.M.Memory.device c.run_core.new.core.memory) c.args.core.now c.run_core.new.core
     (record {
-      fresh = c.requires.fresh;
-      at_start = c.requires.rests;
       accepted = accepted;
       opened = opened;
-      plays = c.run_core.ensures.plays;
+      same = c.run_core.ensures.opened;
       known = record {
         legal = c.history.ensures.legal;
         legal_due = c.history.ensures.legal_due;
         due_is = c.history.ensures.due;
+        due_at = c.history.ensures.certain;
+        device = c.memory.ensures.device;
         recoverable = c.memory.ensures.recoverable;
         may_recover_to = c.memory.ensures.may_recover_to;
         rests = c.memory.ensures.rests;

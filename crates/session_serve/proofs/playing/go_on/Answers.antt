@@ -1,8 +1,5 @@
-use Rattle.session_serve.proofs.Events.{at_most_one, in_call-event, played-in_flight, plays-event}
+use Rattle.session_serve.proofs.Events.{at_most_one, in_call-event, played-in_flight}
 use Rattle.session_serve.proofs.playing.go_on.Goals as goal
-
-pub returns-clause-plays : goal.returns-clause-plays
-returns-clause-plays g c = plays-event c.step-event.result _ _ _ _ c.step-event.ensures.device c.step-event.ensures.event
 
 pub returns-clause-most : goal.returns-clause-most
 returns-clause-most g c = at_most_one c.step-event.result _ _ _ _ c.step-event.ensures.event

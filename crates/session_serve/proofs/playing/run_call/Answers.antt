@@ -1,10 +1,10 @@
 use Rattle.std.proofs.Common.{◌≡◌, ◌≢◌, ◌∙◌, Some, ap, sym, refl}
-use Rattle.session_serve.proofs.Events.{both_ways, cut_now, in_call-begin, plays-none, plays-on, still_before}
+use Rattle.session_serve.proofs.Events.{both_ways, cut_now, in_call-begin, still_before}
 use Rattle.session_serve.proofs.playing.run_call.Goals as goal
 
 pub loop-cut-init : goal.loop-cut-init
 loop-cut-init g c = record {
-  plays = plays-none _ _;
+  opened = refl;
   started = refl;
   in_call = λ said is. in_call-begin _ said _ _ is;
   counted = c.requires.counted;
@@ -15,31 +15,31 @@ pub loop-cut-preserved : goal.loop-cut-preserved
 loop-cut-preserved g c =
     let kept = c.loop-cut.invariant in
     record {
-      plays = plays-on _ _ _ _ _ _ kept.plays c.go_on.ensures.plays;
+      opened = c.go_on.ensures.opened ∙ kept.opened;
       started = c.go_on.ensures.started ∙ kept.started;
-      in_call = λ said is. c.go_on.ensures.in_call said _ _ kept.plays.opened (kept.in_call said is);
+      in_call = λ said is. c.go_on.ensures.in_call said _ _ kept.opened (kept.in_call said is);
       counted = c.played.ensures.counted;
       before = still_before c.args.cut _ _ kept.before c.go_on.ensures.most
           (λ e. both_ways c.is_cut_at.result (c.is_cut_at.ensures.1 (e ∙ ap Some (sym c.played.ensures.played))) c.if-is_cut_at.false);
     }
 
-pub returns-then-is_cut_at-clause-plays : goal.returns-then-is_cut_at-clause-plays
-returns-then-is_cut_at-clause-plays g c = plays-on _ _ _ _ _ _ c.loop-cut.invariant.plays c.go_on.ensures.plays
+pub returns-then-is_cut_at-clause-opened : goal.returns-then-is_cut_at-clause-opened
+returns-then-is_cut_at-clause-opened g c = c.go_on.ensures.opened ∙ c.loop-cut.invariant.opened
 
 pub returns-then-is_cut_at-clause-started : goal.returns-then-is_cut_at-clause-started
 returns-then-is_cut_at-clause-started g c = c.go_on.ensures.started ∙ c.loop-cut.invariant.started
 
 pub returns-then-is_cut_at-clause-in_call : goal.returns-then-is_cut_at-clause-in_call
 returns-then-is_cut_at-clause-in_call g c =
-    λ said is. c.go_on.ensures.in_call said _ _ c.loop-cut.invariant.plays.opened (c.loop-cut.invariant.in_call said is)
+    λ said is. c.go_on.ensures.in_call said _ _ c.loop-cut.invariant.opened (c.loop-cut.invariant.in_call said is)
 
 pub returns-then-is_cut_at-clause-ends : goal.returns-then-is_cut_at-clause-ends
 returns-then-is_cut_at-clause-ends g c =
     let now = c.is_cut_at.ensures.0 c.if-is_cut_at.true ∙ ap Some c.played.ensures.played in
     (c.go_on.ensures.in_flight (cut_now c.args.cut _ _ c.loop-cut.invariant.before now), now)
 
-pub returns-clause-plays : goal.returns-clause-plays
-returns-clause-plays g c = c.loop-cut.invariant.plays
+pub returns-clause-opened : goal.returns-clause-opened
+returns-clause-opened g c = c.loop-cut.invariant.opened
 
 pub returns-clause-started : goal.returns-clause-started
 returns-clause-started g c = c.loop-cut.invariant.started

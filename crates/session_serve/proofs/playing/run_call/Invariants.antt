@@ -2,12 +2,12 @@ use Rattle.std.proofs.Common.{◌≡◌}
 use Rattle.mv_model.specs.declared.call.Call.{Call}
 use Rattle.engine_core.specs.CoreState.{Unplaced}
 use Rattle.engine_core.specs.LogicalState.{logical_state}
-use Rattle.session_serve.specs.Playing.{IsBefore, IsCounted, IsInCall, Plays}
+use Rattle.session_serve.specs.Playing.{IsBefore, IsCounted, IsInCall}
 use Rattle.session_serve.proofs.playing.run_call.Given as goal
 
 abbrev pub invariant-loop-cut : goal.invariant-loop-cut
 invariant-loop-cut g l = record {
-  plays : Plays (g.M.Memory.device l.initial.core.memory) (g.M.Memory.device l.core.memory) l.initial.core l.core;
+  opened : l.core.opened ≡ l.initial.core.opened;
   started : l.core.started ≡ l.initial.core.started;
   in_call : (said : Call) → l.initial.core.in_flight ≡ Unplaced said
       → IsInCall (logical_state l.initial.core.opened) said l.initial.core.history l.core.in_flight l.core.history;

@@ -7,3 +7,6 @@ returns-clause-ends g c =
 
 pub returns-clause-taken : goal.returns-clause-taken
 returns-clause-taken g c = takes-on c.run_words.result c.read_lines.result c.in-Ok-read_lines.script _ _ c.in-Ok-read_lines.is c.read_lines.ensures.taken
+
+pub returns-clause-image_taken : goal.returns-clause-image_taken
+returns-clause-image_taken g c = takes-on c.run_words.result c.read_image.result c.in-Ok.words _ _ c.in-Ok.is c.read_image.ensures.taken

@@ -26,7 +26,7 @@ invariant_of-self g c =
     let waiting = subst (λ (f : Flight). IsKept d inside.opened.items inside.history.items inside.transactions left f inside.events_left inside.played inside.started) c.take_call-said.ensures.call c.self.invariant.0 in
     let kept = subst (λ (l : List Action). IsKept d inside.opened.items inside.history.items inside.transactions l (flight.Waiting said) inside.events_left inside.played inside.started) (none-left left none) waiting in
     let now = decides inside.opened.items d inside.history.items c.enter-entered.new.history.items inside.transactions decision.after said decision.reply decision.copy decision.late c.enter-entered.result (left_of decision.plan)
-    inside.events_left (inside.events_left - 1) inside.played inside.started one c.decide-decision.ensures.copied c.decide-decision.ensures.late c.enter-entered.ensures.entered c.decide-decision.ensures.decided c.decide-decision.ensures.survives kept in
+    inside.events_left (inside.events_left - 1) inside.played inside.started one c.decide-decision.ensures.copied c.decide-decision.ensures.late c.decide-decision.ensures.timed c.enter-entered.ensures.entered c.decide-decision.ensures.decided c.decide-decision.ensures.survives kept in
     let before = kept.count in
     let after = now.count in
     let size = ap pending c.take_call-said.ensures.call in

@@ -1,4 +1,6 @@
 use Rattle.engine_core.proofs.CoreSteps.{answers-seen}
+use Rattle.engine_core.specs.Decided.{left_of}
+use Rattle.engine_core.proofs.Played.{due-at}
 use Rattle.engine_core.proofs.Recoveries.{due-next}
 use Rattle.engine_core.proofs.store_core.Core.history.Goals as goal
 
@@ -13,3 +15,9 @@ returns-clause-due g c = rw (← c.self.view_is) (due-next c.self.inside.flight 
 
 pub returns-clause-legal_due : goal.returns-clause-legal_due
 returns-clause-legal_due g c = rw (← c.self.view_is) c.self.invariant.0.legal_due
+
+pub returns-clause-certain : goal.returns-clause-certain
+returns-clause-certain g c =
+    let inside = c.self.inside in
+    let kept = c.self.invariant.0 in
+    rw (← c.self.view_is) (due-at inside.opened.items inside.history.items (left_of inside.plan) inside.flight inside.events_left kept.bounded kept.timed)

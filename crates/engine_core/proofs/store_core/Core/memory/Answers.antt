@@ -1,5 +1,6 @@
 use Rattle.engine_core.specs.Decided.{left_of}
 use Rattle.engine_core.proofs.OpenedCore.{recoverable-now}
+use Rattle.engine_core.proofs.Played.{played-device}
 use Rattle.engine_core.proofs.Recoveries.{may-recover}
 use Rattle.engine_core.proofs.Steps.{rests}
 use Rattle.engine_core.proofs.store_core.Core.memory.Goals as goal
@@ -19,3 +20,6 @@ pub returns-clause-rests : goal.returns-clause-rests
 returns-clause-rests g c =
     let inside = c.self.inside in
     rw (← c.self.view_is) (rests inside.opened.items (g.M.Memory.device inside.memory) inside.history.items inside.transactions (left_of inside.plan) inside.flight inside.events_left inside.played inside.started c.self.invariant.0)
+
+pub returns-clause-device : goal.returns-clause-device
+returns-clause-device g c = rw (← c.self.view_is) (played-device c.self.invariant.0.done)

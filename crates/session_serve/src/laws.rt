@@ -1,0 +1,17 @@
+// What a moment of a run is pinned by.
+ghost use Rattle.std.specs.Prelude.{◌≡◌, ◌≢◌, ◌++◌, ℕ, List, []};
+ghost use Rattle.mv_model.specs.declared.reply.Entry.{Entry};
+ghost use Rattle.script_text.specs.declared.script.Line.{Line};
+ghost use Rattle.session_serve.specs.Moments.{IsRun, Moment, decided};
+
+/// The law of what is due in a run that is cut.
+pub fn due_law()
+    // No entry that has its place can be called due in its stead: the entries that are printed are all that are certain.
+    ensures placed { (words : List ℕ) (script : List Line) (played : ℕ) (m : Moment) (front rest : List Entry)
+        → IsRun words script played m → m.history ≡ front ++ rest → rest ≢ []
+        → IsRun words script played (record m { history = front; due = rest ++ m.due }) → ⊥ }
+
+    // A moment is determined by the calls that are decided, and by how many actions were played.
+    ensures determined { (words : List ℕ) (script : List Line) (played : ℕ) (m other : Moment)
+        → IsRun words script played m → IsRun words script played other → decided m ≡ decided other → m ≡ other }
+{}
