@@ -9,17 +9,17 @@ use Rattle.image_layout.specs.declared.layout.TheConstants.{OBJECTS}
 use Rattle.image_layout.specs.Blocks.{live_blocks}
 use Rattle.image_layout.specs.SoundRules.{IsSound}
 use Rattle.heap_palloc.specs.Index.{HeapIndex, IsIndexOf}
-use Rattle.image_layout.specs.Fixed.{state_at, commit_word_at}
+use Rattle.image_layout.specs.Fixed.{lane_op_at, state_at, commit_word_at}
 use Rattle.image_layout.specs.Objects as objects
 use Rattle.image_layout.specs.Objects.{ready_count, segment_of, segment_pointer_at, pointer_after, entry_places}
 use Rattle.heap_palloc.specs.Choice.{IsThrough}
 use Rattle.heap_palloc.proofs.Rereading.{choice_stable}
 use Rattle.txn_object.specs.declared.entry.Entry.{Entry}
 use Rattle.txn_object.specs.Calls.{MayPlanExtension}
-use Rattle.txn_object.specs.Changes.{SameObjectRead, GoesOn, IsBegun, beginning, IsSpelt, entry_parts, IsEntered, entering, extended_words, EndsExtension, SameSourceRead, SameExtensionRead, extending, Retirement, MayRetire, ShowsRetire, ClearsAll, ClearsCommit, no_transaction, retiring, IsObjectPlace}
+use Rattle.txn_object.specs.Changes.{SameObjectRead, GoesOn, IsBegun, beginning, IsSpelt, NewEntry, IsEntered, entering, extended_words, EndsExtension, SameSourceRead, SameExtensionRead, extending, Retirement, MayRetire, ShowsRetire, ClearsAll, ClearsCommit, no_transaction, retiring, IsObjectOf, IsObjectPlace}
 use Rattle.txn_object.specs.Entries.{entry_word, entry_of}
 use Rattle.txn_object.specs.Extension.{Source, owned, allocated, Extension, new_segment, source_parts, readying_parts, extension_parts, segment_block, HasSegments, MayTake, MayExtend}
-use Rattle.txn_object.specs.Object.{entries_in, nth_place, clear_part, retire_parts}
+use Rattle.txn_object.specs.Object.{entries_in, entry_part, nth_place, clear_part, retire_parts}
 use Rattle.txn_object.specs.Shown.{Shows, HasObject, MayEnter, IsRetiring, IsRetired}
 use Rattle.txn_object.specs.Spared.{its_pointer}
 use Rattle.txn_object.proofs.Entering.{state_object, state_shows, entry_object, entry_shows, entry_packed}
@@ -28,6 +28,7 @@ use Rattle.txn_object.proofs.Parts.{begin_segments, begin_goes_on, entry_segment
 use Rattle.txn_object.proofs.Keeping.{kept_object, kept_segments, kept_extension}
 use Rattle.txn_object.proofs.Retire.{retire_plan, retire_each, retire_ends, retire_shows, retire_free}
 use Rattle.txn_object.proofs.Spared.{keeps_frame, keeps_places, keeps_shows, keeps_object, keeps_packed}
+use Rattle.txn_object.proofs.OwnedSegments.{has_segments, may_extend}
 use Rattle.txn_object.proofs.Sound.{sound_extends}
 use Rattle.txn_object.proofs.Whole.{extension_shown, apart_from_blocks}
 
@@ -63,7 +64,7 @@ begin_holds object = record {
 
 -- ── an entry ──
 
-entry_is : (object nth : ℕ) (entry : Entry) (base : List ℕ) → MayEnter base object nth entry → IsEntered object nth entry base (set base (get_or (entry_places base object) nth 0) (entry_word entry))
+entry_is : (object nth : ℕ) (entry : Entry) (base : List ℕ) → MayEnter base object nth entry → IsEntered (record { object = object; nth = nth; entry = entry }) base (set base (get_or (entry_places base object) nth 0) (entry_word entry))
 entry_is object nth entry base may = record {
   size = length-set base (get_or (entry_places base object) nth 0) (entry_word entry);
   word = get_or-set_same base (get_or (entry_places base object) nth 0) (entry_word entry) 0 (entry_in base object may.is_object nth may.room);
@@ -80,7 +81,7 @@ entry_is object nth entry base may = record {
 }
 
 entry_stable : (object nth : ℕ) (entry : Entry) (old new : List ℕ) → SameObjectRead object old new → MayEnter old object nth entry
-    → MayEnter new object nth entry × (entry_parts new object nth entry ≡ entry_parts old object nth entry)
+    → MayEnter new object nth entry × ((entry_part new object nth entry ∷ []) ≡ (entry_part old object nth entry ∷ []))
 entry_stable object nth entry old new same may = (
   record {
     is_object = keeps_object old new object same.keeps same.last may.is_object;
@@ -98,12 +99,12 @@ entry_stable object nth entry old new same may = (
   ap (λ (l : List ℕ). one_store (get_or l nth 0) (entry_word entry) ∷ []) (keeps_places old new object same.keeps),
 )
 
-pub entry_holds : (object nth : ℕ) (entry : Entry) → HoldsOnWords (entering object nth entry)
-entry_holds object nth entry = record {
-  plan = λ base may. (store_part (length base) (get_or (entry_places base object) nth 0) (entry_word entry) (entry_in base object may.is_object nth may.room), tt);
-  cuts = λ base may. one_store_cuts (IsEntered object nth entry base) (get_or (entry_places base object) nth 0) (entry_word entry) base (entry_is object nth entry base may);
-  end = λ base may. entry_is object nth entry base may;
-  stable = λ old new same may. entry_stable object nth entry old new same may;
+pub entry_holds : (n : NewEntry) → HoldsOnWords (entering n)
+entry_holds n = record {
+  plan = λ base may. (store_part (length base) (get_or (entry_places base n.object) n.nth 0) (entry_word n.entry) (entry_in base n.object may.is_object n.nth may.room), tt);
+  cuts = λ base may. one_store_cuts (IsEntered n base) (get_or (entry_places base n.object) n.nth 0) (entry_word n.entry) base (entry_is n.object n.nth n.entry base may);
+  end = λ base may. entry_is n.object n.nth n.entry base may;
+  stable = λ old new same may. entry_stable n.object n.nth n.entry old new same may;
 }
 
 -- ── an extension ──
@@ -242,3 +243,9 @@ place_object words object is has =
 
 pub sound_extension : (words : List ℕ) (index : HeapIndex) (object : ℕ) → object < OBJECTS → IsSound words → IsIndexOf words index → MayPlanExtension words index object
 sound_extension words index object number sound is = sound_extends words sound object (omega (arith, number)) index is
+
+pub own_segments : (words : List ℕ) (object : ℕ) → IsObjectOf words object → HasSegments words object
+own_segments words object is = let number = is.number in has_segments words object is.rules is.owners (omega (arith, number))
+
+pub own_extension : (words : List ℕ) (index : HeapIndex) (object : ℕ) → IsObjectOf words object → IsIndexOf words index → get_or words (lane_op_at object) 0 ≡ 0 → MayPlanExtension words index object
+own_extension words index object is index_of idle = let number = is.number in may_extend words index object is.rules is.owners (omega (arith, number)) index_of idle

@@ -34,7 +34,8 @@ pub record MayPlanExtension (words : List ℕ) (index : HeapIndex) (object : ℕ
 
 -- where an allocation of 256 words goes
 abbrev pub IsChosenSource : List ℕ → HeapIndex → Source → Type 0
-IsChosenSource words old source = (choice : Choice) × (source ≡ allocated choice) × IsChosen words old.free.runs 256 choice
+IsChosenSource words old source =
+    (choice : Choice) × (source ≡ allocated choice) × IsChosen words old.free.runs 256 choice
 
 -- An extension is planned. Where the object didn't own the segment, it is allocated as the heap allocates; where it did, the
 -- index stays. Once the plan was played, the index stands for the words.
@@ -53,11 +54,13 @@ extend_error HeapNoMemory = NoMemory
 
 -- the heap has no room for a segment that the object doesn't own
 abbrev pub HasNoRoom : List ℕ → ℕ → ExtendError → Type 0
-HasNoRoom words object error = (error ≡ Full 1 (longest_free_run words)) × (next_pointer words object ≡ 0) × IsFull words 256
+HasNoRoom words object error =
+    (error ≡ Full 1 (longest_free_run words)) × (next_pointer words object ≡ 0) × IsFull words 256
 
 -- The segment is planned: it begins at this place, its allocation, if it needs one, follows the actions, and the index
 -- stands for the words behind it.
-pub record IsSegmentPlanned (words : List ℕ) (old new : HeapIndex) (object segment : ℕ) (before after : List Action) : Type 0 where
+pub record IsSegmentPlanned (words : List ℕ) (old new : HeapIndex) (object segment : ℕ) (before after : List Action) :
+    Type 0 where
   pub source : Source
   pub from : segment_from source ≡ segment
   pub may : MayExtend words (record { object = object; source = source })

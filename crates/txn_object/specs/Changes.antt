@@ -6,7 +6,8 @@ use Rattle.image_layout.specs.declared.layout.TheConstants.{CLOSED, FIXED_PAGES,
 use Rattle.image_layout.specs.Fixed.{last_at, lane_op_at, state_at, commit_word_at}
 use Rattle.image_layout.specs.Blocks.{live_blocks}
 use Rattle.image_layout.specs.Checks.{Keeps}
-use Rattle.image_layout.specs.EntryRules.{object_rule}
+use Rattle.image_layout.specs.EntryRules.{KeepsEntryRules, object_rule}
+use Rattle.image_layout.specs.Owners.{OwnersAreApart}
 use Rattle.image_layout.specs.Objects.{ready_count, segment_of, pointer_after, entry_places}
 use Rattle.heap_palloc.specs.Calls.{KeepsHeapRules}
 use Rattle.heap_palloc.specs.Changes.{SameChoiceRead}
@@ -19,7 +20,7 @@ use Rattle.txn_object.specs.Entries.{entry_word}
 use Rattle.txn_object.specs.Extension.{Source, owned, allocated, Extension, new_segment, source_parts, extension_parts, segment_block, HasSegments, MayExtend}
 use Rattle.txn_object.specs.Object.{entries_in, nth_place, begin_parts, entry_part, retire_parts, NoEntryFollowsZero}
 use Rattle.txn_object.specs.Shown.{Transaction, Shows, HasObject, MayEnter, IsUnextended, IsExtended, IsRetiring, IsRetired}
-use Rattle.txn_object.specs.Spared.{KeepsObject}
+use Rattle.txn_object.specs.Spared.{KeepsObject, SparesObject}
 
 -- What the plans of an object read is the same: its words. No number was taken back.
 pub record SameObjectRead (object : ℕ) (old new : List ℕ) : Type 0 where
@@ -30,6 +31,12 @@ pub record SameObjectRead (object : ℕ) (old new : List ℕ) : Type 0 where
 pub record GoesOn (object : ℕ) (base words : List ℕ) : Type 0 where
   pub segments : HasSegments base object → HasSegments words object
   pub extends : (index : HeapIndex) → MayPlanExtension base index object → MayPlanExtension words index object
+
+-- there is such an object, in an image that keeps the rules which every image keeps, and whose owner words are apart
+pub record IsObjectOf (words : List ℕ) (object : ℕ) : Type 0 where
+  pub number : object < OBJECTS
+  pub rules : KeepsEntryRules words
+  pub owners : OwnersAreApart words
 
 -- the image shows the transaction as it was, or as it is then
 abbrev pub IsOneOf : ℕ → Transaction → Transaction → List ℕ → Type 0
@@ -52,7 +59,7 @@ pub record IsBegun (object : ℕ) (base words : List ℕ) : Type 0 where
   pub size : length words ≡ length base
   pub state : slice_index words (state_at object) ≡ OPEN
   pub others : (w : ℕ) → w ≢ state_at object → slice_index words w ≡ slice_index base w
-  pub shows : (transaction : Transaction) → Shows base object transaction → Shows words object (begun transaction)
+  pub shows : (t : Transaction) → Shows base object t → Shows words object (begun t)
   pub is_object : HasObject words object
   pub goes_on : GoesOn object base words
 
@@ -65,6 +72,12 @@ beginning object = record {
   reads = SameObjectRead object;
 }
 
+-- the object may be opened where it shows this transaction, before parts that leave its words
+pub record IsBeginBefore (base : List ℕ) (object : ℕ) (t : Transaction) (parts : List Part) : Type 0 where
+  pub is_object : HasObject base object
+  pub shows : Shows base object t
+  pub spares : SparesObject base object parts
+
 -- ── an entry ──
 
 -- the entry's table and row are numbers that its word has room for
@@ -76,30 +89,43 @@ pub record IsSpelt (entry : Entry) : Type 0 where
 abbrev pub with_entry : Transaction → Entry → Transaction
 with_entry transaction entry = record transaction { entries = transaction.entries ++ entry ∷ [] }
 
-abbrev pub entry_parts : List ℕ → ℕ → ℕ → Entry → List Part
-entry_parts words object nth entry = entry_part words object nth entry ∷ []
+-- an entry that is to be the one at this place of the transaction in an object
+pub record NewEntry : Type 0 where
+  pub object : ℕ
+  pub nth : ℕ
+  pub entry : Entry
 
--- The entry stands at its place, and each other word is that of the base. So the transaction has it behind the others, its
--- rule goes on to hold, no entry follows a word that is 0, and the next one may be entered.
-pub record IsEntered (object nth : ℕ) (entry : Entry) (base words : List ℕ) : Type 0 where
+abbrev pub entry_parts : List ℕ → NewEntry → List Part
+entry_parts words n = entry_part words n.object n.nth n.entry ∷ []
+
+-- The entry stands at its place, and each other word is that of the base. So the transaction has it behind the others,
+-- its rule goes on to hold, no entry follows a word that is 0, and the next one may be entered.
+pub record IsEntered (n : NewEntry) (base words : List ℕ) : Type 0 where
   pub size : length words ≡ length base
-  pub word : slice_index words (nth_place base object nth) ≡ entry_word entry
-  pub others : (w : ℕ) → w ≢ nth_place base object nth → slice_index words w ≡ slice_index base w
-  pub places : entry_places words object ≡ entry_places base object
-  pub shows : (transaction : Transaction) → Shows base object transaction → Shows words object (with_entry transaction entry)
-  pub is_object : HasObject words object
-  pub packed : NoEntryFollowsZero words object
-  pub next : (other : Entry) → nth + 1 < length (entry_places base object) → IsSpelt other → MayEnter words object (nth + 1) other
-  pub goes_on : GoesOn object base words
+  pub word : slice_index words (nth_place base n.object n.nth) ≡ entry_word n.entry
+  pub others : (w : ℕ) → w ≢ nth_place base n.object n.nth → slice_index words w ≡ slice_index base w
+  pub places : entry_places words n.object ≡ entry_places base n.object
+  pub shows : (t : Transaction) → Shows base n.object t → Shows words n.object (with_entry t n.entry)
+  pub is_object : HasObject words n.object
+  pub packed : NoEntryFollowsZero words n.object
+  pub next : (other : Entry) → n.nth + 1 < length (entry_places base n.object) → IsSpelt other
+      → MayEnter words n.object (n.nth + 1) other
+  pub goes_on : GoesOn n.object base words
 
-abbrev pub entering : ℕ → ℕ → Entry → Change
-entering object nth entry = record {
-  asks = λ base. MayEnter base object nth entry;
-  parts = λ base. entry_parts base object nth entry;
-  shows = λ base image. (image ≡ base) ⊎ IsEntered object nth entry base image;
-  ends = IsEntered object nth entry;
-  reads = SameObjectRead object;
+abbrev pub entering : NewEntry → Change
+entering n = record {
+  asks = λ base. MayEnter base n.object n.nth n.entry;
+  parts = λ base. entry_parts base n;
+  shows = λ base image. (image ≡ base) ⊎ IsEntered n base image;
+  ends = IsEntered n;
+  reads = SameObjectRead n.object;
 }
+
+-- the entry may be entered into this transaction, before parts that leave the object's words
+pub record IsEntryBefore (base : List ℕ) (n : NewEntry) (t : Transaction) (parts : List Part) : Type 0 where
+  pub may : MayEnter base n.object n.nth n.entry
+  pub shows : Shows base n.object t
+  pub spares : SparesObject base n.object parts
 
 -- ── an extension ──
 
@@ -117,14 +143,16 @@ HasNoNext words object = slice_index words (pointer_after words object) ≡ 0
 
 -- what a cut of an extension shows once its lane is mended
 abbrev pub ShowsExtension : Extension → List ℕ → List ℕ → Type 0
-ShowsExtension e base image = IsUnextended base e (mended_lane e.object image) ⊎ IsExtended base e (mended_lane e.object image)
+ShowsExtension e base image =
+    IsUnextended base e (mended_lane e.object image) ⊎ IsExtended base e (mended_lane e.object image)
 
 -- What the words after an extension show: one ready segment more, whose words are 0. It allocates the segment, unless the
 -- object owned it. Mending the lane leaves them, the ready segments are blocks of the heap which share no word, and the next
 -- extension may be planned.
 pub record EndsExtension (e : Extension) (base words : List ℕ) : Type 0 where
   pub extended : IsExtended base e words
-  pub allocates : HasNoNext base e.object → GainsOne (live_blocks base) (segment_block (new_segment e)) (live_blocks words)
+  pub allocates : HasNoNext base e.object
+      → GainsOne (live_blocks base) (segment_block (new_segment e)) (live_blocks words)
   pub owned : ¬ HasNoNext base e.object → live_blocks words ≡ live_blocks base
   pub mended : mended_lane e.object words ≡ words
   pub segments : HasSegments words e.object
@@ -174,6 +202,10 @@ pub record ShowsRetire (r : Retirement) (base image : List ℕ) : Type 0 where
   pub is_object : HasObject image r.object
   pub goes_on : GoesOn r.object base image
 
+-- the object is idle, and the words to clear are 0
+abbrev pub IsRetiredBy : Retirement → List ℕ → List ℕ → Type 0
+IsRetiredBy r old words = IsRetired old r.object r.entries r.word words
+
 -- no fewer entries are cleared than the transaction has
 pub record ClearsAll (old : List ℕ) (r : Retirement) : Type 0 where
   pub may : MayRetire old r
@@ -193,6 +225,6 @@ retiring r = record {
   asks = λ base. MayRetire base r;
   parts = λ base. retire_parts base r.object r.entries r.word;
   shows = ShowsRetire r;
-  ends = λ base words. IsRetired base r.object r.entries r.word words;
+  ends = IsRetiredBy r;
   reads = SameObjectRead r.object;
 }

@@ -44,7 +44,8 @@ abbrev pub readying_parts : ℕ → ℕ → ℕ → List Part
 readying_parts object count segment = zero_part segment ∷ one_store (ready_at object) (count + 1) ∷ []
 
 abbrev pub extension_parts : List ℕ → Extension → List Part
-extension_parts words e = source_parts words e.source ++ readying_parts e.object (ready_count words e.object) (new_segment e)
+extension_parts words e = source_parts words e.source
+    ++ readying_parts e.object (ready_count words e.object) (new_segment e)
 
 -- a segment as a block
 abbrev pub segment_block : ℕ → Block
@@ -54,16 +55,21 @@ segment_block segment = record { first = segment; words = 256 }
 pub record HasSegments (words : List ℕ) (object : ℕ) : Type 0 where
   pub rules : KeepsHeapRules words
   pub rule : Keeps words (object_rule object)
-  pub live : (segment : ℕ) → segment < ready_count words object → Contains (live_blocks words) (segment_block (segment_of words object segment))
+  pub live : (segment : ℕ) → segment < ready_count words object
+      → Contains (live_blocks words) (segment_block (segment_of words object segment))
 
 -- a place is that of none of the ready segments
 abbrev pub IsNoSegment : List ℕ → ℕ → ℕ → Type 0
-IsNoSegment words object place = (segment : ℕ) → segment < ready_count words object → segment_of words object segment ≢ place
+IsNoSegment words object place =
+    (segment : ℕ) → segment < ready_count words object → segment_of words object segment ≢ place
 
 -- the object owns the segment, or it may be allocated
 abbrev pub MayTake : List ℕ → ℕ → Source → Type 0
-MayTake words object (owned segment) = (slice_index words (pointer_after words object) ≡ pointer_word segment) × Contains (live_blocks words) (segment_block segment)
-MayTake words object (allocated choice) = MayMake words choice × IsThrough object (pointer_after words object) choice × ((choice_block choice).words ≡ 256)
+MayTake words object (owned segment) =
+    (slice_index words (pointer_after words object) ≡ pointer_word segment)
+    × Contains (live_blocks words) (segment_block segment)
+MayTake words object (allocated choice) =
+    MayMake words choice × IsThrough object (pointer_after words object) choice × ((choice_block choice).words ≡ 256)
 
 -- The extension may begin: fewer than 32 segments are ready, the lane is idle, and the new segment is none of them.
 pub record MayExtend (words : List ℕ) (e : Extension) : Type 0 where

@@ -24,7 +24,8 @@ nth_word words object nth = slice_index words (nth_place words object nth)
 -- no entry of the object follows a word that is 0
 abbrev pub NoEntryFollowsZero : List ℕ → ℕ → Type 0
 NoEntryFollowsZero words object =
-    (nth : ℕ) → nth + 1 < length (entry_places words object) → nth_word words object nth ≡ 0 → nth_word words object (nth + 1) ≡ 0
+    (nth : ℕ) → nth + 1 < length (entry_places words object) → nth_word words object nth ≡ 0
+    → nth_word words object (nth + 1) ≡ 0
 
 -- a begin: the object is open
 abbrev pub begin_parts : ℕ → List Part
@@ -41,4 +42,5 @@ clear_part words object entries word =
 
 -- a retire: the object is idle, and then its entries and its commit word are cleared
 abbrev pub retire_parts : List ℕ → ℕ → ℕ → Bool → List Part
-retire_parts words object entries word = one_store (state_at object) 0 ∷ unless_empty (clear_part words object entries word)
+retire_parts words object entries word =
+    one_store (state_at object) 0 ∷ unless_empty (clear_part words object entries word)

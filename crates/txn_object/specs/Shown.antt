@@ -59,28 +59,33 @@ pub record IsCut (play : Play) (left : List Action) (d : Device) (image base : L
 
 -- the words that the second part of a retire clears: the first entries and, where it is set, the commit word
 abbrev pub IsCleared : List ℕ → ℕ → ℕ → Bool → ℕ → Type 0
-IsCleared words object entries word w = ((nth : ℕ) × (nth < entries) × (w ≡ nth_place words object nth)) ⊎ (IsTrue word × (w ≡ commit_word_at object))
+IsCleared words object entries word w =
+    ((nth : ℕ) × (nth < entries) × (w ≡ nth_place words object nth)) ⊎ (IsTrue word × (w ≡ commit_word_at object))
 
 -- The object is idle, of the words to clear each is the old one or 0, and all other words are the old ones.
 pub record IsRetiring (old : List ℕ) (object entries : ℕ) (word : Bool) (words : List ℕ) : Type 0 where
   pub size : length words ≡ length old
   pub state : slice_index words (state_at object) ≡ 0
-  pub cleared : (w : ℕ) → IsCleared old object entries word w → (slice_index words w ≡ slice_index old w) ⊎ (slice_index words w ≡ 0)
-  pub others : (w : ℕ) → w ≢ state_at object → ¬ IsCleared old object entries word w → slice_index words w ≡ slice_index old w
+  pub cleared : (w : ℕ) → IsCleared old object entries word w → (slice_index words w ≡ slice_index old w)
+      ⊎ (slice_index words w ≡ 0)
+  pub others : (w : ℕ) → w ≢ state_at object → ¬ IsCleared old object entries word w
+      → slice_index words w ≡ slice_index old w
 
 -- The object is idle, the words to clear are 0, and all other words are the old ones.
 pub record IsRetired (old : List ℕ) (object entries : ℕ) (word : Bool) (words : List ℕ) : Type 0 where
   pub size : length words ≡ length old
   pub state : slice_index words (state_at object) ≡ 0
   pub cleared : (w : ℕ) → IsCleared old object entries word w → slice_index words w ≡ 0
-  pub others : (w : ℕ) → w ≢ state_at object → ¬ IsCleared old object entries word w → slice_index words w ≡ slice_index old w
+  pub others : (w : ℕ) → w ≢ state_at object → ¬ IsCleared old object entries word w
+      → slice_index words w ≡ slice_index old w
 
 -- ── an extension ──
 
 -- a word that the allocation of a segment doesn't write
 abbrev pub IsElsewhereOf : List ℕ → ℕ → Source → ℕ → Type 0
 IsElsewhereOf words object (owned segment) w = Unit {0}
-IsElsewhereOf words object (allocated choice) w = IsElsewhere object (pointer_after words object) (choice_page choice) (choice_pages choice) w
+IsElsewhereOf words object (allocated choice) w =
+    IsElsewhere object (pointer_after words object) (choice_page choice) (choice_pages choice) w
 
 -- a place outside the words of a segment
 abbrev pub IsOutside : ℕ → ℕ → Type 0
@@ -94,7 +99,8 @@ pub record KeepsEntries (base : List ℕ) (e : Extension) (words : List ℕ) : T
   pub state : slice_index words (state_at e.object) ≡ slice_index base (state_at e.object)
   pub commit_word : slice_index words (commit_word_at e.object) ≡ slice_index base (commit_word_at e.object)
   pub entries : entries words e.object ≡ entries base e.object
-  pub others : (w : ℕ) → IsElsewhereOf base e.object e.source w → IsOutside (new_segment e) w → w ≢ ready_at e.object → slice_index words w ≡ slice_index base w
+  pub others : (w : ℕ) → IsElsewhereOf base e.object e.source w → IsOutside (new_segment e) w → w ≢ ready_at e.object
+      → slice_index words w ≡ slice_index base w
 
 -- the live blocks are those after the extension, and the segment's pointer stands behind the ready ones
 pub record HasSegment (base : List ℕ) (e : Extension) (words : List ℕ) : Type 0 where

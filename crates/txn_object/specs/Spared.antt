@@ -11,8 +11,10 @@ pub data IsOfObject (words : List ℕ) (object : ℕ) : ℕ → Type 0 where
   its_state : IsOfObject words object (state_at object)
   its_commit_word : IsOfObject words object (commit_word_at object)
   its_count : IsOfObject words object (ready_at object)
-  its_pointer : (segment : ℕ) → segment ≤ ready_count words object → IsOfObject words object (segment_pointer_at words object segment)
-  its_entry : (nth : ℕ) → nth < length (entry_places words object) → IsOfObject words object (nth_place words object nth)
+  its_pointer : (segment : ℕ) → segment ≤ ready_count words object
+      → IsOfObject words object (segment_pointer_at words object segment)
+  its_entry : (nth : ℕ) → nth < length (entry_places words object)
+      → IsOfObject words object (nth_place words object nth)
 
 -- they are the same
 pub record KeepsObject (old : List ℕ) (object : ℕ) (new : List ℕ) : Type 0 where

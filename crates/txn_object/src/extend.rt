@@ -37,13 +37,15 @@ pub fn plan_extend<M: Memory>(
     requires last { session ≤ 16 }
     requires may { MayPlanExtension (M.device mem.now).cached heap.old (session - 1) }
 
-    ensures planned { IfOk result (λ plan. IsExtensionPlanned (M.device mem.now).cached heap.old heap.new (session - 1) plan.left) }
+    ensures planned { IfOk result (λ plan.
+        IsExtensionPlanned (M.device mem.now).cached heap.old heap.new (session - 1) plan.left) }
 
     ensures write_set_full { ready_count (M.device mem.now).cached (session - 1) ≡ 32 → result ≡ Err WriteSetFull }
     ensures full { IfErr result (λ error. (error ≡ OutOfMemory)
         ⊎ ((error ≡ WriteSetFull) × (ready_count (M.device mem.now).cached (session - 1) ≡ 32))
         ⊎ HasNoRoom (M.device mem.now).cached (session - 1) error) }
-    ensures room { IfOk result (λ _. next_pointer (M.device mem.now).cached (session - 1) ≡ 0 → IsFull (M.device mem.now).cached 256 → ⊥) }
+    ensures room { IfOk result (λ _.
+        next_pointer (M.device mem.now).cached (session - 1) ≡ 0 → IsFull (M.device mem.now).cached 256 → ⊥) }
     ensures unchanged { OnErr result (heap.new ≡ heap.old) }
 {
     let object = session - 1;
@@ -71,10 +73,12 @@ fn push_segment<M: Memory>(
     requires count { count ≡ ready_count (M.device mem.now).cached object }
     requires not_full { count < 32 }
     requires room { 23 ≤ plan.old.spare }
-    ensures planned { IfOk result (λ segment. IsSegmentPlanned (M.device mem.now).cached heap.old heap.new object segment.0 plan.old.left plan.new.left) }
+    ensures planned { IfOk result (λ segment.
+        IsSegmentPlanned (M.device mem.now).cached heap.old heap.new object segment.0 plan.old.left plan.new.left) }
     ensures spare { IfOk result (λ _. plan.old.spare ≤ plan.new.spare + 23) }
     ensures full { IfErr result (λ error. (error ≡ OutOfMemory) ⊎ HasNoRoom (M.device mem.now).cached object error) }
-    ensures fits { IfOk result (λ _. next_pointer (M.device mem.now).cached object ≡ 0 → IsFull (M.device mem.now).cached 256 → ⊥) }
+    ensures fits { IfOk result (λ _.
+        next_pointer (M.device mem.now).cached object ≡ 0 → IsFull (M.device mem.now).cached 256 → ⊥) }
     ensures unchanged { OnErr result (heap.new ≡ heap.old) }
 {
     let owner = pointer_to(mem, object, count);
@@ -103,6 +107,8 @@ fn push_readying(plan: &mut Plan, object: u8, count: u32, segment: Place)
     ensures { plan.new.left ≡ plan.old.left ++ plan_of (readying_parts object count segment.0) }
 {
     push_zeros(plan, segment, ENTRY_SEGMENT_WORDS);
+    // The fence comes before the count: else the segment's old words would be entries.
     plan.end_part(ENTRY_SEGMENT_WORDS);
+    // From here on the segment is ready.
     plan.push_store(ready_segments(object), u64::from(count + 1));
 }

@@ -9,11 +9,11 @@ ghost use Rattle.pm_model.specs.Plans.{Part, EachCut, finished, footprint, plan_
 ghost use Rattle.heap_palloc.specs.Index.{HeapIndex, IsIndexOf};
 ghost use Rattle.txn_object.specs.declared.entry.Entry.{Entry};
 ghost use Rattle.txn_object.specs.Calls.{MayPlanExtension};
-ghost use Rattle.txn_object.specs.Changes.{begun, beginning, IsSpelt, with_entry, entry_parts, entering, extending, Retirement, ClearsAll, ClearsCommit, no_transaction, retiring, IsObjectPlace, IsOneOf, source_words};
+ghost use Rattle.txn_object.specs.Changes.{begun, beginning, IsBeginBefore, IsSpelt, with_entry, NewEntry, entry_parts, entering, IsEntryBefore, extending, Retirement, ClearsAll, ClearsCommit, no_transaction, retiring, IsObjectPlace, IsRetiredBy, IsOneOf, source_words};
 ghost use Rattle.txn_object.specs.Entries.{entry_word, entry_of};
 ghost use Rattle.txn_object.specs.Extension.{Extension, HasSegments, MayExtend};
 ghost use Rattle.txn_object.specs.Object.{nth_place, begin_parts, NoEntryFollowsZero};
-ghost use Rattle.txn_object.specs.Shown.{Transaction, Shows, HasObject, MayEnter, IsRetired};
+ghost use Rattle.txn_object.specs.Shown.{Transaction, Shows, HasObject, MayEnter};
 ghost use Rattle.txn_object.specs.Spared.{KeepsObject, SparesObject};
 
 /// A begin: at each cut the words are as before, or the object is open and its entries are as before. After its last action
@@ -24,28 +24,27 @@ pub fn begin_law()
 
     // The same before other parts, which leave the object's words.
     ensures each { (object : ℕ) (t : Transaction) (parts : List Part) (base : List ℕ) →
-        HasObject base object → Shows base object t → SparesObject base object parts →
+        IsBeginBefore base object t parts →
         EachCut (IsOneOf object t (begun t)) (begin_parts object ++ parts) base }
     ensures finishes { (object : ℕ) (t : Transaction) (parts : List Part) (base : List ℕ) →
-        HasObject base object → Shows base object t → SparesObject base object parts →
-        Shows (finished (begin_parts object ++ parts) base) object (begun t) }
+        IsBeginBefore base object t parts → Shows (finished (begin_parts object ++ parts) base) object (begun t) }
 {}
 
 /// An entry: at each cut the words are as before, or the transaction has one entry more. After its last action it has it, at
 /// its place, and the next one may be entered.
 pub fn entry_law()
     ensures spelt { (entry : Entry) → IsSpelt entry → entry_of (entry_word entry) ≡ entry }
-    ensures survives { (object nth : ℕ) (entry : Entry) → Survives (entering object nth entry) }
-    ensures writes { (words : List ℕ) (object nth w : ℕ) (entry : Entry) →
-        IsTrue (footprint (plan_of (entry_parts words object nth entry)) w) ↔ (w ≡ nth_place words object nth) }
+    ensures survives { (n : NewEntry) → Survives (entering n) }
+    ensures writes { (words : List ℕ) (n : NewEntry) (w : ℕ) →
+        IsTrue (footprint (plan_of (entry_parts words n)) w) ↔ (w ≡ nth_place words n.object n.nth) }
 
     // The same before other parts, which leave the object's words.
-    ensures each { (object nth : ℕ) (entry : Entry) (t : Transaction) (parts : List Part) (base : List ℕ) →
-        MayEnter base object nth entry → Shows base object t → SparesObject base object parts →
-        EachCut (IsOneOf object t (with_entry t entry)) (entry_parts base object nth entry ++ parts) base }
-    ensures finishes { (object nth : ℕ) (entry : Entry) (t : Transaction) (parts : List Part) (base : List ℕ) →
-        MayEnter base object nth entry → Shows base object t → SparesObject base object parts →
-        Shows (finished (entry_parts base object nth entry ++ parts) base) object (with_entry t entry) }
+    ensures each { (n : NewEntry) (t : Transaction) (parts : List Part) (base : List ℕ) →
+        IsEntryBefore base n t parts →
+        EachCut (IsOneOf n.object t (with_entry t n.entry)) (entry_parts base n ++ parts) base }
+    ensures finishes { (n : NewEntry) (t : Transaction) (parts : List Part) (base : List ℕ) →
+        IsEntryBefore base n t parts →
+        Shows (finished (entry_parts base n ++ parts) base) n.object (with_entry t n.entry) }
 {}
 
 /// An extension: the lane mended, each cut has the ready segments before it, or those after it and new words of 0; the entries
@@ -55,10 +54,12 @@ pub fn extension_law()
 
     // The next one may be planned too once the object owns its segment.
     ensures half_way { (base : List ℕ) (e : Extension) (index : HeapIndex) →
-        MayExtend base e → IsIndexOf (source_words base e) index → MayPlanExtension (source_words base e) index e.object }
+        MayExtend base e → IsIndexOf (source_words base e) index →
+        MayPlanExtension (source_words base e) index e.object }
 
     // Segments that are blocks of the heap share no word. In a sound image an extension may be planned of each object.
-    ensures object { (words : List ℕ) (object : ℕ) → IsObjectPlace words object → HasSegments words object → HasObject words object }
+    ensures object { (words : List ℕ) (object : ℕ) → IsObjectPlace words object → HasSegments words object →
+        HasObject words object }
     ensures sound { (words : List ℕ) (index : HeapIndex) (object : ℕ) →
         object < OBJECTS → IsSound words → IsIndexOf words index → MayPlanExtension words index object }
 {}
@@ -70,11 +71,11 @@ pub fn retire_law()
 
     // Where no fewer entries are cleared than the transaction has, none is left, and the next one may have its first entry.
     ensures shows { (r : Retirement) (old words : List ℕ) →
-        ClearsAll old r → IsRetired old r.object r.entries r.word words → ClearsCommit old r → Shows words r.object no_transaction }
-    ensures empty { (r : Retirement) (old words : List ℕ) (nth : ℕ) → ClearsAll old r → IsRetired old r.object r.entries r.word words →
+        ClearsAll old r → IsRetiredBy r old words → ClearsCommit old r → Shows words r.object no_transaction }
+    ensures empty { (r : Retirement) (old words : List ℕ) (nth : ℕ) → ClearsAll old r → IsRetiredBy r old words →
         nth < length (entry_places old r.object) → slice_index words (nth_place old r.object nth) ≡ 0 }
-    ensures begins { (r : Retirement) (old words : List ℕ) (entry : Entry) → ClearsAll old r →
-        IsRetired old r.object r.entries r.word words → IsSpelt entry → MayEnter words r.object 0 entry }
+    ensures begins { (r : Retirement) (old words : List ℕ) (entry : Entry) →
+        ClearsAll old r → IsRetiredBy r old words → IsSpelt entry → MayEnter words r.object 0 entry }
 {}
 
 /// What an object shows, and its rule, depend on its own words alone, and the rule also on the last number.
@@ -85,7 +86,8 @@ pub fn object_law()
         slice_index old last_at ≤ slice_index new last_at → HasObject old object → HasObject new object }
     ensures packed { (old new : List ℕ) (object : ℕ) →
         KeepsObject old object new → NoEntryFollowsZero old object → NoEntryFollowsZero new object }
-    ensures places { (old new : List ℕ) (object : ℕ) → KeepsObject old object new → entry_places new object ≡ entry_places old object }
+    ensures places { (old new : List ℕ) (object : ℕ) → KeepsObject old object new →
+        entry_places new object ≡ entry_places old object }
 
     // Parts that leave them leave what it shows.
     ensures parts { (words : List ℕ) (object : ℕ) (t : Transaction) (parts : List Part) →

@@ -25,6 +25,7 @@ pub fn plan_begin(alloc: Global, session: u8) -> Result<Plan, NoMemory>
     ensures { IfOk result (λ plan. plan.left ≡ plan_of (begin_parts (session - 1))) }
 {
     let mut plan = Plan::with_room(alloc, STORE_ACTIONS)?;
+    // From here on the transaction is open: opening undoes what its entries name, unless its commit word is set.
     plan.push_store(object_state(session - 1), 1);
     Ok(plan)
 }
@@ -38,9 +39,11 @@ pub fn push_entry<M: Memory>(plan: &mut Plan, mem: &M, session: u8, nth: u32, en
     requires there { nth < length (entry_places (M.device mem.now).cached (session - 1)) }
     requires table { entry.table < 2 ^ 24 }
     requires room { 2 < plan.old.spare }
-    ensures left { plan.new.left ≡ plan.old.left ++ part_actions (entry_part (M.device mem.now).cached (session - 1) nth entry) }
+    ensures left { plan.new.left ≡ plan.old.left
+        ++ part_actions (entry_part (M.device mem.now).cached (session - 1) nth entry) }
     ensures spare { plan.new.spare + 3 ≡ plan.old.spare }
 {
+    // From here on the entry is the transaction's: what it names may be stored behind it.
     plan.push_store(entry_place(mem, session - 1, nth), entry.word());
 }
 
@@ -48,7 +51,8 @@ pub fn push_entry<M: Memory>(plan: &mut Plan, mem: &M, session: u8, nth: u32, en
 /// word: a store and at most one flush for each of them, a fence, and the 3 actions of the first part.
 pub fn retire_room(entries: u32, word: bool) -> u32
     requires { entries ≤ 8220 }
-    ensures { (words : List ℕ) (object : ℕ) → entries ≤ length (entry_places words object) → length (plan_of (retire_parts words object entries word)) ≤ result }
+    ensures { (words : List ℕ) (object : ℕ) → entries ≤ length (entry_places words object) →
+        length (plan_of (retire_parts words object entries word)) ≤ result }
 {
     STORE_ACTIONS + 2 * (entries + u32::from(word)) + 1
 }
@@ -60,10 +64,14 @@ pub fn push_retire<M: Memory>(plan: &mut Plan, mem: &M, session: u8, entries: u3
     requires last { session ≤ 16 }
     requires rule { 60 < entries → Keeps (M.device mem.now).cached (object_rule (session - 1)) }
     requires there { entries ≤ length (entry_places (M.device mem.now).cached (session - 1)) }
-    requires room { length (plan_of (retire_parts (M.device mem.now).cached (session - 1) entries word)) ≤ plan.old.spare }
-    ensures left { plan.new.left ≡ plan.old.left ++ plan_of (retire_parts (M.device mem.now).cached (session - 1) entries word) }
-    ensures spare { plan.new.spare + length (plan_of (retire_parts (M.device mem.now).cached (session - 1) entries word)) ≡ plan.old.spare }
+    requires room { length (plan_of (retire_parts (M.device mem.now).cached (session - 1) entries word))
+        ≤ plan.old.spare }
+    ensures left { plan.new.left ≡ plan.old.left
+        ++ plan_of (retire_parts (M.device mem.now).cached (session - 1) entries word) }
+    ensures spare { plan.new.spare
+        + length (plan_of (retire_parts (M.device mem.now).cached (session - 1) entries word)) ≡ plan.old.spare }
 {
+    // The object is idle before its words are cleared: else opening would undo what it had no entry for any more.
     plan.push_store(object_state(session - 1), 0);
     if entries > 0 || word {
         push_clear(plan, mem, session - 1, entries, word);
@@ -77,8 +85,10 @@ fn push_clear<M: Memory>(plan: &mut Plan, mem: &M, object: u8, entries: u32, wor
     requires there { entries ≤ length (entry_places (M.device mem.now).cached object) }
     requires some { IsTrue (not (entries == 0) || word) }
     requires room { length (part_actions (clear_part (M.device mem.now).cached object entries word)) ≤ plan.old.spare }
-    ensures left { plan.new.left ≡ plan.old.left ++ part_actions (clear_part (M.device mem.now).cached object entries word) }
-    ensures spare { plan.new.spare + length (part_actions (clear_part (M.device mem.now).cached object entries word)) ≡ plan.old.spare }
+    ensures left { plan.new.left ≡ plan.old.left
+        ++ part_actions (clear_part (M.device mem.now).cached object entries word) }
+    ensures spare { plan.new.spare + length (part_actions (clear_part (M.device mem.now).cached object entries word))
+        ≡ plan.old.spare }
 {
     push_clear_stores(plan, mem, object, entries, word);
     plan.end_part(entries + u32::from(word));
@@ -108,7 +118,8 @@ fn push_entry_zeros<M: Memory>(plan: &mut Plan, mem: &M, object: u8, entries: u3
     requires rule { 60 < entries → Keeps (M.device mem.now).cached (object_rule object) }
     requires there { entries ≤ length (entry_places (M.device mem.now).cached object) }
     requires room { entries ≤ plan.old.spare }
-    ensures left { plan.new.left ≡ plan.old.left ++ stores 0 (take entries (entry_places (M.device mem.now).cached object)) }
+    ensures left { plan.new.left ≡ plan.old.left
+        ++ stores 0 (take entries (entry_places (M.device mem.now).cached object)) }
     ensures spare { plan.new.spare + entries ≡ plan.old.spare }
 {
     let own = entries.min(OWN_ENTRIES);

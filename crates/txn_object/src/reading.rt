@@ -36,9 +36,12 @@ pub fn entries<M: Memory>(alloc: Global, mem: &M, session: u8) -> Result<EntryLi
 // Adds the entries that stand in so many words in a row.
 fn read_run<M: Memory>(mem: &M, first: Place, count: u32, list: &mut EntryList)
     requires within { first.0 + count ≤ length (M.device mem.now).cached }
-    requires packed { (nth : ℕ) → nth + 1 < count → slice_index (M.device mem.now).cached (first.0 + nth) ≡ 0 → slice_index (M.device mem.now).cached (first.0 + (nth + 1)) ≡ 0 }
+    requires packed { (nth : ℕ) → nth + 1 < count → slice_index (M.device mem.now).cached (first.0 + nth) ≡ 0 →
+        slice_index (M.device mem.now).cached (first.0 + (nth + 1)) ≡ 0 }
     requires room { count ≤ list.old.spare }
-    ensures entries { list.new.entries ≡ list.old.entries ++ map entry_of (filter (λ word. not (word == 0)) (map (slice_index (M.device mem.now).cached) (range_with_len first.0 count))) }
+    ensures entries { list.new.entries ≡ list.old.entries
+        ++ map entry_of (filter (λ word. not (word == 0))
+        (map (slice_index (M.device mem.now).cached) (range_with_len first.0 count))) }
     ensures spare { list.old.spare ≤ list.new.spare + count }
 {
     for nth in 0..count {
@@ -72,7 +75,8 @@ pub fn free_entries<M: Memory>(mem: &M, session: u8) -> u32
 // How many of so many words in a row are 0.
 fn free_in_run<M: Memory>(mem: &M, first: Place, count: u32) -> u32
     requires within { first.0 + count ≤ length (M.device mem.now).cached }
-    ensures free { result ≡ count_by (λ at. slice_index (M.device mem.now).cached at == 0) (range_with_len first.0 count) }
+    ensures free { result ≡ count_by (λ at. slice_index (M.device mem.now).cached at == 0)
+        (range_with_len first.0 count) }
     ensures most { result ≤ count }
 {
     let mut free = 0;

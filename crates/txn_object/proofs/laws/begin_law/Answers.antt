@@ -8,7 +8,7 @@ pub returns-clause-survives : goal.returns-clause-survives
 returns-clause-survives c = λ object. survives-from-words (beginning object) (begin_holds object)
 
 pub returns-clause-each : goal.returns-clause-each
-returns-clause-each c = λ object transaction parts base has shows spares. begin_before base object has transaction shows parts spares
+returns-clause-each c = λ object t parts base is. begin_before base object is.is_object t is.shows parts is.spares
 
 pub returns-clause-finishes : goal.returns-clause-finishes
-returns-clause-finishes c = λ object transaction parts base has shows spares. begin_finished base object has transaction shows parts spares
+returns-clause-finishes c = λ object t parts base is. begin_finished base object is.is_object t is.shows parts is.spares

@@ -9,10 +9,10 @@ pub returns-clause-spelt : goal.returns-clause-spelt
 returns-clause-spelt c = λ entry spelt. entry_of-entry_word entry spelt.table spelt.row
 
 pub returns-clause-survives : goal.returns-clause-survives
-returns-clause-survives c = λ object nth entry. survives-from-words (entering object nth entry) (entry_holds object nth entry)
+returns-clause-survives c = λ n. survives-from-words (entering n) (entry_holds n)
 
 pub returns-clause-each : goal.returns-clause-each
-returns-clause-each c = λ object nth entry transaction parts base may shows spares. entry_before base object nth entry may transaction shows parts spares
+returns-clause-each c = λ n t parts base is. entry_before base n.object n.nth n.entry is.may t is.shows parts is.spares
 
 pub returns-clause-finishes : goal.returns-clause-finishes
-returns-clause-finishes c = λ object nth entry transaction parts base may shows spares. entry_finished base object nth entry may transaction shows parts spares
+returns-clause-finishes c = λ n t parts base is. entry_finished base n.object n.nth n.entry is.may t is.shows parts is.spares
