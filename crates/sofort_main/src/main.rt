@@ -1,17 +1,19 @@
 //! The program `sofort`: the words of the command line, the files that they name, and the exit status.
 //!
-//! What a command does is `session_serve::run`; here real files and standard output are put under it.
+//! What a command does is `session_serve::run`; here real files and standard output are put under it. The file OUT is claimed
+//! before anything is read, and replaced whole (`whole_file`).
 #![tactic(auto)]
 
-mod late_file;
+mod paths;
 
 use io_edge::{CleanSink, CleanSource, EdgeSink, EdgeSource, Sink, Source};
-use late_file::LateFile;
+use paths::{Role, path_of};
 use session_serve::{Command, Paths, Status, WordsError, read_words, run, status_text};
 use std::alloc::Global;
 use std::fs::File;
 use std::process::ExitCode;
 use std::{env, io};
+use whole_file::{Claim, ClaimError, FolderFile, WholeFile};
 
 /// The words behind the program's name.
 fn command_words(rt: &HostRuntime, alloc: Global) -> io::Result<Vec<String>> {
@@ -45,14 +47,14 @@ fn run_into<I: Source, S: Source>(
     rt: &HostRuntime,
     alloc: Global,
     words: &[String],
-    paths: &Paths,
+    claim: Option<&Claim>,
     image: &mut I,
     input: &mut S,
 ) -> Status {
-    match &paths.image_out {
+    match claim {
         None => run_over(rt, alloc, words, image, input, &mut CleanSink::new()),
-        Some(path) => {
-            let mut file = EdgeSink::new(LateFile::new(rt, path.as_str()));
+        Some(claim) => {
+            let mut file = EdgeSink::new(WholeFile::new(FolderFile::new(rt, claim)));
             run_over(rt, alloc, words, image, input, &mut file)
         }
     }
@@ -64,25 +66,47 @@ fn run_image<I: Source>(
     alloc: Global,
     words: &[String],
     paths: &Paths,
+    claim: Option<&Claim>,
     image: &mut I,
 ) -> Status {
-    match &paths.input {
-        None => run_into(rt, alloc, words, paths, image, &mut no_source(alloc)),
-        Some(path) => match File::open(rt, path.as_str()) {
-            Ok(file) => run_into(rt, alloc, words, paths, image, &mut EdgeSource::new(file)),
+    match path_of(paths, Role::Input) {
+        None => run_into(rt, alloc, words, claim, image, &mut no_source(alloc)),
+        Some(path) => match File::open(rt, path) {
+            Ok(file) => run_into(rt, alloc, words, claim, image, &mut EdgeSource::new(file)),
             Err(_) => Status::ReadFault,
         },
     }
 }
 
 /// Runs the command over the files that it names. A path that can't be opened for reading is a read fault.
-fn run_files(rt: &HostRuntime, alloc: Global, words: &[String], paths: &Paths) -> Status {
-    match &paths.image {
-        None => run_image(rt, alloc, words, paths, &mut no_source(alloc)),
-        Some(path) => match File::open(rt, path.as_str()) {
-            Ok(file) => run_image(rt, alloc, words, paths, &mut EdgeSource::new(file)),
+fn run_claimed(
+    rt: &HostRuntime,
+    alloc: Global,
+    words: &[String],
+    paths: &Paths,
+    claim: Option<&Claim>,
+) -> Status {
+    match path_of(paths, Role::Image) {
+        None => run_image(rt, alloc, words, paths, claim, &mut no_source(alloc)),
+        Some(path) => match File::open(rt, path) {
+            Ok(file) => {
+                let mut image = EdgeSource::new(file);
+                run_image(rt, alloc, words, paths, claim, &mut image)
+            }
             Err(_) => Status::ReadFault,
         },
+    }
+}
+
+/// Claims the file that the command writes, and runs the command. A file that another run has can't be opened.
+fn run_files(rt: &HostRuntime, alloc: Global, words: &[String], paths: &Paths) -> Status {
+    let Some(path) = path_of(paths, Role::ImageOut) else {
+        return run_claimed(rt, alloc, words, paths, None);
+    };
+    match Claim::of(rt, path) {
+        Ok(claim) => run_claimed(rt, alloc, words, paths, Some(&claim)),
+        Err(ClaimError::Busy) => Status::ReadFault,
+        Err(ClaimError::NoMemory) => Status::NoMemory,
     }
 }
 
