@@ -20,7 +20,8 @@ pub struct Change {
 pub(crate) fn push_needed<M: Memory>(plan: &mut Plan, mem: &M, changes: &[Change])
     requires room { 3 * length changes.now ≤ plan.old.spare }
     requires in_image { All (λ change. change.place.0 < length (M.device mem.now).cached) changes.now }
-    ensures left { plan.new.left ≡ plan.old.left ++ plan_of (needed_parts (M.device mem.now).cached (change_parts changes.now)) }
+    ensures left { plan.new.left ≡ plan.old.left
+        ++ plan_of (needed_parts (M.device mem.now).cached (change_parts changes.now)) }
 {
     for done in 0..changes.len() {
         let change = changes[done];

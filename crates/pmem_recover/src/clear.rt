@@ -24,8 +24,10 @@ pub fn next_clear<M: Memory>(
     from: u32,
 ) -> Result<Option<(u32, Plan)>, NoMemory>
     requires { Keeps (M.device mem.now).cached objects_rule }
-    ensures next { IfOk result (λ found. IfSome found (λ next. IsNext (step_parts clear_mending (M.device mem.now).cached) 16 from next.0 next.1.left)) }
-    ensures none { IfOk result (λ found. IsNone found ↔ NoneFrom (step_parts clear_mending (M.device mem.now).cached) 16 from) }
+    ensures next { IfOk result (λ found.
+        IfSome found (λ next. IsNext (step_parts clear_mending (M.device mem.now).cached) 16 from next.0 next.1.left)) }
+    ensures none { IfOk result (λ found.
+        IsNone found ↔ NoneFrom (step_parts clear_mending (M.device mem.now).cached) 16 from) }
 {
     for number in from..u32::from(OBJECTS) {
         let plan = plan_clear(alloc, mem, number as u8)?;

@@ -23,7 +23,9 @@ pub(crate) fn filled_entries<M: Memory>(
 ) -> Result<Vec<Place>, NoMemory>
     requires rules { Keeps (M.device mem.now).cached objects_rule }
     requires object { object < 16 }
-    ensures places { IfOk result (λ filled. places_of filled.items ≡ filter (is_filled (M.device mem.now).cached) (entry_places (M.device mem.now).cached object)) }
+    ensures places { IfOk result (λ filled.
+        places_of filled.items ≡ filter (is_filled (M.device mem.now).cached)
+        (entry_places (M.device mem.now).cached object)) }
     ensures few { IfOk result (λ filled. length filled.items ≤ 8220) }
 {
     let mut filled = Vec::new(alloc);
@@ -40,7 +42,9 @@ pub(crate) fn filled_entries<M: Memory>(
 // Adds the places of the entries that stand in the object itself.
 fn push_own<M: Memory>(mem: &M, object: u8, filled: &mut Vec<Place>) -> Result<(), NoMemory>
     requires { object < 16 }
-    ensures places { IfOk result (λ _. places_of filled.new.items ≡ places_of filled.old.items ++ filter (is_filled (M.device mem.now).cached) (map (entry_at object) (below 60))) }
+    ensures places { IfOk result (λ _.
+        places_of filled.new.items ≡ places_of filled.old.items
+        ++ filter (is_filled (M.device mem.now).cached) (map (entry_at object) (below 60))) }
     ensures few { IfOk result (λ _. vec_len filled.new ≤ vec_len filled.old + 60) }
 {
     for entry in 0..OBJECT_ENTRIES {
@@ -52,7 +56,9 @@ fn push_own<M: Memory>(mem: &M, object: u8, filled: &mut Vec<Place>) -> Result<(
 // Adds the places of the entries of a segment.
 fn push_segment<M: Memory>(mem: &M, segment: Place, filled: &mut Vec<Place>) -> Result<(), NoMemory>
     requires { segment.0 + 256 ≤ length (M.device mem.now).cached }
-    ensures places { IfOk result (λ _. places_of filled.new.items ≡ places_of filled.old.items ++ filter (is_filled (M.device mem.now).cached) (map (segment_entry_at segment.0) (below 255))) }
+    ensures places { IfOk result (λ _.
+        places_of filled.new.items ≡ places_of filled.old.items
+        ++ filter (is_filled (M.device mem.now).cached) (map (segment_entry_at segment.0) (below 255))) }
     ensures few { IfOk result (λ _. vec_len filled.new ≤ vec_len filled.old + 255) }
 {
     for entry in 0..SEGMENT_ENTRIES {
@@ -64,7 +70,9 @@ fn push_segment<M: Memory>(mem: &M, segment: Place, filled: &mut Vec<Place>) -> 
 // Adds a place, where its word isn't 0.
 fn push_filled<M: Memory>(mem: &M, at: Place, filled: &mut Vec<Place>) -> Result<(), NoMemory>
     requires { at.0 < length (M.device mem.now).cached }
-    ensures places { IfOk result (λ _. places_of filled.new.items ≡ places_of filled.old.items ++ filter (is_filled (M.device mem.now).cached) (at.0 ∷ [])) }
+    ensures places { IfOk result (λ _.
+        places_of filled.new.items ≡ places_of filled.old.items
+        ++ filter (is_filled (M.device mem.now).cached) (at.0 ∷ [])) }
     ensures few { IfOk result (λ _. vec_len filled.new ≤ vec_len filled.old + 1) }
 {
     if mem.load(at) != 0 {

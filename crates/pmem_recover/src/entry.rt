@@ -21,7 +21,8 @@ pub fn check_entry(_alloc: Global, words: &[u64]) -> Result<(), EntryError>
     requires most { length words.now ≤ 4194304 }
     ensures sound { IfOk result (λ _. first_fault entry_rules words.now ≡ None) }
     ensures fault { IfErr result (λ error. (error ≡ OutOfMemory)
-        ⊎ ((rule place : ℕ) × (first_fault entry_rules words.now ≡ Some (record { rule = rule; place = place })) × (error ≡ BadImage rule place))) }
+        ⊎ ((rule place : ℕ) × (first_fault entry_rules words.now ≡ Some (record { rule = rule; place = place }))
+        × (error ≡ BadImage rule place))) }
 {
     refuse(1, magic_fault(words))?;
     refuse(2, version_fault(words))?;

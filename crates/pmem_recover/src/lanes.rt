@@ -30,8 +30,10 @@ pub fn next_lane<M: Memory>(
     from: u32,
 ) -> Result<Option<(u32, Plan)>, NoMemory>
     requires { KeepsLaneRules (M.device mem.now).cached }
-    ensures next { IfOk result (λ found. IfSome found (λ next. IsNext (step_parts lane_mending (M.device mem.now).cached) 16 from next.0 next.1.left)) }
-    ensures none { IfOk result (λ found. IsNone found ↔ NoneFrom (step_parts lane_mending (M.device mem.now).cached) 16 from) }
+    ensures next { IfOk result (λ found.
+        IfSome found (λ next. IsNext (step_parts lane_mending (M.device mem.now).cached) 16 from next.0 next.1.left)) }
+    ensures none { IfOk result (λ found.
+        IsNone found ↔ NoneFrom (step_parts lane_mending (M.device mem.now).cached) 16 from) }
 {
     for lane in from..u32::from(LANES) {
         if mem.load(lane_op(lane as u8)) != IDLE {
@@ -56,6 +58,7 @@ fn plan_lane<M: Memory>(alloc: Global, mem: &M, lane: u8) -> Result<Plan, NoMemo
         value: IDLE,
     };
     let mut plan = Plan::with_room(alloc, 3 * CHANGE_ACTIONS)?;
+    // The lane is idle last: until then a cut of the step is mended to the same words.
     if mem.load(lane_op(lane)) != ALLOCATING {
         let disown = Change {
             place: owner,

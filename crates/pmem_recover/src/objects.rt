@@ -18,8 +18,10 @@ pub fn next_last<M: Memory>(
     mem: &M,
     from: u32,
 ) -> Result<Option<(u32, Plan)>, NoMemory>
-    ensures next { IfOk result (λ found. IfSome found (λ next. IsNext (step_parts (λ number. last_mending) (M.device mem.now).cached) 1 from next.0 next.1.left)) }
-    ensures none { IfOk result (λ found. IsNone found ↔ NoneFrom (step_parts (λ number. last_mending) (M.device mem.now).cached) 1 from) }
+    ensures next { IfOk result (λ found. IfSome found (λ next.
+        IsNext (step_parts (λ number. last_mending) (M.device mem.now).cached) 1 from next.0 next.1.left)) }
+    ensures none { IfOk result (λ found.
+        IsNone found ↔ NoneFrom (step_parts (λ number. last_mending) (M.device mem.now).cached) 1 from) }
 {
     let number = count_commits(mem);
     if from > 0 || mem.load(last_commit()) == number {
@@ -60,13 +62,16 @@ pub fn next_idle<M: Memory>(
     mem: &M,
     from: u32,
 ) -> Result<Option<(u32, Plan)>, NoMemory>
-    ensures next { IfOk result (λ found. IfSome found (λ next. IsNext (step_parts close_mending (M.device mem.now).cached) 16 from next.0 next.1.left)) }
-    ensures none { IfOk result (λ found. IsNone found ↔ NoneFrom (step_parts close_mending (M.device mem.now).cached) 16 from) }
+    ensures next { IfOk result (λ found.
+        IfSome found (λ next. IsNext (step_parts close_mending (M.device mem.now).cached) 16 from next.0 next.1.left)) }
+    ensures none { IfOk result (λ found.
+        IsNone found ↔ NoneFrom (step_parts close_mending (M.device mem.now).cached) 16 from) }
 {
     for number in from..u32::from(OBJECTS) {
         let object = number as u8;
         if is_committed(mem, object) {
             let mut plan = Plan::with_room(alloc, CHANGE_ACTIONS)?;
+            // Its commit word stands, so its rows are committed whatever comes behind this.
             plan.push_store(object_state(object), CLOSED);
             return Ok(Some((number, plan)));
         }
@@ -77,7 +82,8 @@ pub fn next_idle<M: Memory>(
 // Whether an object is open and has its commit word.
 fn is_committed<M: Memory>(mem: &M, object: u8) -> bool
     requires { object < 16 }
-    ensures { result ≡ (is_open (M.device mem.now).cached object && not (commit_word_of (M.device mem.now).cached object == 0)) }
+    ensures { result ≡ (is_open (M.device mem.now).cached object
+        && not (commit_word_of (M.device mem.now).cached object == 0)) }
 {
     mem.load(object_state(object)) == OPEN && mem.load(commit_word(object)) != 0
 }

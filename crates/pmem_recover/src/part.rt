@@ -21,7 +21,10 @@ pub(crate) fn push_part<M: Memory>(
     requires few { length part.now < 2 ^ 31 }
     requires room { 2 * length part.now < plan.old.spare }
     requires in_image { All (λ change. change.place.0 < length (M.device mem.now).cached) part.now }
-    ensures left { IfOk result (λ _. plan.new.left ≡ plan.old.left ++ plan_of (unless_empty (needed_stores (words_after (change_part earlier.now) (M.device mem.now).cached) (change_part part.now)))) }
+    ensures left { IfOk result (λ _.
+        plan.new.left ≡ plan.old.left
+        ++ plan_of (unless_empty (needed_stores (words_after (change_part earlier.now) (M.device mem.now).cached)
+        (change_part part.now)))) }
     ensures spare { IfOk result (λ _. plan.old.spare ≤ plan.new.spare + 2 * length part.now + 1) }
 {
     let needed = needed(alloc, mem, earlier, part)?;
@@ -45,7 +48,9 @@ pub(crate) fn push_parts<M: Memory>(
     requires few { length changes.now < 2 ^ 30 }
     requires room { 3 * length changes.now < plan.old.spare }
     requires in_image { All (λ change. change.place.0 < length (M.device mem.now).cached) changes.now }
-    ensures { IfOk result (λ _. plan.new.left ≡ plan.old.left ++ plan_of (needed_parts (M.device mem.now).cached (change_part (take first changes.now) ∷ change_parts (drop first changes.now)))) }
+    ensures { IfOk result (λ _. plan.new.left ≡ plan.old.left
+        ++ plan_of (needed_parts (M.device mem.now).cached (change_part (take first changes.now)
+        ∷ change_parts (drop first changes.now)))) }
 {
     push_part(alloc, plan, mem, &[], &changes[..first])?;
     for done in first..changes.len() {
@@ -66,7 +71,9 @@ fn needed<M: Memory>(
     part: &[Change],
 ) -> Result<Vec<Change>, NoMemory>
     requires in_image { All (λ change. change.place.0 < length (M.device mem.now).cached) part.now }
-    ensures needed { IfOk result (λ kept. change_part kept.items ≡ needed_stores (words_after (change_part earlier.now) (M.device mem.now).cached) (change_part part.now)) }
+    ensures needed { IfOk result (λ kept.
+        change_part kept.items ≡ needed_stores (words_after (change_part earlier.now) (M.device mem.now).cached)
+        (change_part part.now)) }
     ensures few { IfOk result (λ kept. length kept.items ≤ length part.now) }
 {
     let mut stored = BTreeSet::new(alloc);

@@ -32,8 +32,10 @@ pub fn next_slot<M: Memory>(
     from: u32,
 ) -> Result<Option<(u32, Plan)>, NoMemory>
     requires { Keeps (M.device mem.now).cached table_slot_rule }
-    ensures next { IfOk result (λ found. IfSome found (λ next. IsNext (step_parts (λ number. slot_mending) (M.device mem.now).cached) 1 from next.0 next.1.left)) }
-    ensures none { IfOk result (λ found. IsNone found ↔ NoneFrom (step_parts (λ number. slot_mending) (M.device mem.now).cached) 1 from) }
+    ensures next { IfOk result (λ found. IfSome found (λ next.
+        IsNext (step_parts (λ number. slot_mending) (M.device mem.now).cached) 1 from next.0 next.1.left)) }
+    ensures none { IfOk result (λ found.
+        IsNone found ↔ NoneFrom (step_parts (λ number. slot_mending) (M.device mem.now).cached) 1 from) }
 {
     if from > 0 {
         return Ok(None);
@@ -49,7 +51,8 @@ pub fn next_slot<M: Memory>(
 // Plans the freeing of the block that the slot at the table count names, where there is one.
 fn plan_slot<M: Memory>(alloc: Global, mem: &M) -> Result<Plan, NoMemory>
     requires { Keeps (M.device mem.now).cached table_slot_rule }
-    ensures { IfOk result (λ plan. plan.left ≡ plan_of (step_parts (λ number. slot_mending) (M.device mem.now).cached 0)) }
+    ensures { IfOk result (λ plan.
+        plan.left ≡ plan_of (step_parts (λ number. slot_mending) (M.device mem.now).cached 0)) }
 {
     let tables = mem.load(table_count());
     if tables >= u64::from(TABLES) {
@@ -65,8 +68,10 @@ fn plan_slot<M: Memory>(alloc: Global, mem: &M) -> Result<Plan, NoMemory>
 /// Plans the freeing of the block that the word at a place names, through lane 0.
 pub(crate) fn plan_freeing<M: Memory>(alloc: Global, mem: &M, at: Place) -> Result<Plan, NoMemory>
     requires in_image { at.0 < length (M.device mem.now).cached }
-    requires pointer { IsTrue (is_block_pointer (M.device mem.now).cached (slice_index (M.device mem.now).cached at.0)) }
-    ensures { IfOk result (λ plan. plan.left ≡ plan_of (needed_parts (M.device mem.now).cached (free_block (M.device mem.now).cached at.0))) }
+    requires pointer { IsTrue (is_block_pointer (M.device mem.now).cached
+        (slice_index (M.device mem.now).cached at.0)) }
+    ensures { IfOk result (λ plan.
+        plan.left ≡ plan_of (needed_parts (M.device mem.now).cached (free_block (M.device mem.now).cached at.0))) }
 {
     let block = named_place(mem, at);
     let released = release(mem, block);

@@ -10,7 +10,7 @@ ghost use Rattle.shown_state.specs.LogicalState.{row_bound as row_bound_of};
 ghost use Rattle.shown_state.specs.Mending.{undo_mending, undo_entry};
 ghost use Rattle.pmem_recover.specs.Changes.{change_part};
 ghost use Rattle.pmem_recover.specs.Steps.{step_parts, IsNext, NoneFrom};
-ghost use Rattle.pmem_recover.specs.Undo.{KeepsUndoRules, words_at, created_among};
+ghost use Rattle.pmem_recover.specs.Undo.{KeepsUndoRules, bounds_part, created_among, words_at};
 
 use crate::change::Change;
 use crate::entries::filled_entries;
@@ -34,8 +34,10 @@ pub fn next_undo<M: Memory>(
     from: u32,
 ) -> Result<Option<(u32, Plan)>, NoMemory>
     requires { KeepsUndoRules (M.device mem.now).cached }
-    ensures next { IfOk result (λ found. IfSome found (λ next. IsNext (step_parts undo_mending (M.device mem.now).cached) 16 from next.0 next.1.left)) }
-    ensures none { IfOk result (λ found. IsNone found ↔ NoneFrom (step_parts undo_mending (M.device mem.now).cached) 16 from) }
+    ensures next { IfOk result (λ found.
+        IfSome found (λ next. IsNext (step_parts undo_mending (M.device mem.now).cached) 16 from next.0 next.1.left)) }
+    ensures none { IfOk result (λ found.
+        IsNone found ↔ NoneFrom (step_parts undo_mending (M.device mem.now).cached) 16 from) }
 {
     for number in from..u32::from(OBJECTS) {
         let plan = plan_undo(alloc, mem, number as u8)?;
@@ -65,6 +67,7 @@ fn plan_undo<M: Memory>(alloc: Global, mem: &M, object: u8) -> Result<Plan, NoMe
         value: CLOSED,
     });
     let mut plan = Plan::with_room(alloc, 3 * changes.len() as u32 + 1)?;
+    // The object is closed behind its stamps and bounds: else a cut would leave rows that no entry names any more.
     push_parts(alloc, &mut plan, mem, &changes, first)?;
     Ok(plan)
 }
@@ -73,10 +76,12 @@ fn plan_undo<M: Memory>(alloc: Global, mem: &M, object: u8) -> Result<Plan, NoMe
 fn push_stamps<M: Memory>(mem: &M, entries: &[Place], changes: &mut Vec<Change>)
     requires rules { KeepsUndoRules (M.device mem.now).cached }
     requires in_image { All (λ at. at.0 < length (M.device mem.now).cached) entries.now }
-    requires each { All (λ at. IsTrue (is_entry (M.device mem.now).cached (slice_index (M.device mem.now).cached at.0))) entries.now }
+    requires each { All (λ at. IsTrue (is_entry (M.device mem.now).cached (slice_index (M.device mem.now).cached at.0)))
+        entries.now }
     requires empty { changes.old.items ≡ [] }
     requires room { length entries.now ≤ vec_capacity changes.old }
-    ensures part { change_part changes.new.items ≡ flat_map (undo_entry (M.device mem.now).cached) (words_at (M.device mem.now).cached entries.now) }
+    ensures part { change_part changes.new.items
+        ≡ flat_map (undo_entry (M.device mem.now).cached) (words_at (M.device mem.now).cached entries.now) }
     ensures within { All (λ change. change.place.0 < length (M.device mem.now).cached) changes.new.items }
     ensures len { vec_len changes.new ≤ length entries.now }
     ensures capacity { vec_capacity changes.new ≡ vec_capacity changes.old }
@@ -91,8 +96,10 @@ fn push_stamp<M: Memory>(mem: &M, word: u64, changes: &mut Vec<Change>)
     requires rules { KeepsUndoRules (M.device mem.now).cached }
     requires entry { IsTrue (is_entry (M.device mem.now).cached word) }
     requires room { vec_len changes.old < vec_capacity changes.old }
-    ensures part { change_part changes.new.items ≡ change_part changes.old.items ++ undo_entry (M.device mem.now).cached word }
-    ensures within { All (λ change. change.place.0 < length (M.device mem.now).cached) changes.old.items → All (λ change. change.place.0 < length (M.device mem.now).cached) changes.new.items }
+    ensures part { change_part changes.new.items ≡ change_part changes.old.items
+        ++ undo_entry (M.device mem.now).cached word }
+    ensures within { All (λ change. change.place.0 < length (M.device mem.now).cached) changes.old.items →
+        All (λ change. change.place.0 < length (M.device mem.now).cached) changes.new.items }
     ensures len { vec_len changes.new ≤ vec_len changes.old + 1 }
     ensures capacity { vec_capacity changes.new ≡ vec_capacity changes.old }
 {
@@ -126,9 +133,7 @@ fn push_bounds<M: Memory>(mem: &M, entries: &[Place], changes: &mut Vec<Change>)
     requires within { All (λ change. change.place.0 < length (M.device mem.now).cached) changes.old.items }
     requires room { vec_len changes.old + 32 ≤ vec_capacity changes.old }
     ensures part { change_part changes.new.items ≡ change_part changes.old.items
-        ++ map (λ table. store (high_at (table_block_of (M.device mem.now).cached table))
-        (max (slice_index (M.device mem.now).cached (high_at (table_block_of (M.device mem.now).cached table))) (row_bound_of (created_among (words_at (M.device mem.now).cached entries.now) table))))
-        (below (table_count_of (M.device mem.now).cached)) }
+        ++ bounds_part (M.device mem.now).cached (words_at (M.device mem.now).cached entries.now) }
     ensures within { All (λ change. change.place.0 < length (M.device mem.now).cached) changes.new.items }
     ensures len { vec_len changes.new ≤ vec_len changes.old + 32 }
     ensures capacity { vec_capacity changes.new ≡ vec_capacity changes.old }
