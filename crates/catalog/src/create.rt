@@ -64,6 +64,7 @@ impl Catalog {
         let (allocation, block) = plan_allocate(alloc, mem, heap, lane, words, table_slot(count))?;
         plan.append(allocation);
         push_table(&mut plan, block.first, name, shape);
+        // The words of the block are fenced before the count, which publishes the table: else it would show old words.
         plan.push_store(table_count(), u64::from(count) + 1);
         self.plan(Table {
             name: name.copy(),
