@@ -4,3 +4,4 @@ pub mod Turns
 pub mod Walking
 pub mod Values
 pub mod Parsing
+pub mod Commands

@@ -1,3 +1,4 @@
 pub mod Parts
 pub mod Outcome
 pub mod Command
+pub mod Words

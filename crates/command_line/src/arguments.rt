@@ -29,20 +29,20 @@ impl From<AllocError> for WordsError {
 
 /// The paths and options of a command line.
 #[derive(Drop)]
-pub struct Arguments<'a> {
+pub(crate) struct Arguments<'a> {
     matches: ArgMatches<'a>,
 }
 
 impl<'a> Arguments<'a> {
     /// The values of the option with this name, in their order; nothing stands for none of them.
-    pub fn values(&self, name: &str) -> Option<&[&'a str]>
+    pub(crate) fn values(&self, name: &str) -> Option<&[&'a str]>
         ensures { option_map (λ values. map (λ value. value.now) values.now) result ≡ values_in self.now name.now }
     {
         self.matches.get_raw(name)
     }
 
     /// The paths, in their order; nothing stands for none of them.
-    pub fn paths(&self) -> Option<&[&'a str]>
+    pub(crate) fn paths(&self) -> Option<&[&'a str]>
         ensures { option_map (λ values. map (λ value. value.now) values.now) result ≡ values_in self.now path }
     {
         self.values(PATH)
@@ -69,7 +69,7 @@ fn may_all_stand(words: &[String]) -> bool
 
 /// The paths of the words, and the values of options with these names: `--name=value`, or `--name` and the next word,
 /// anywhere. Every other word is a path. An option that isn't named, or has no value, is wrong usage.
-pub fn read_arguments<'a>(
+pub(crate) fn read_arguments<'a>(
     alloc: Global,
     options: &'a [&'a str],
     words: &'a [String],
