@@ -22,6 +22,7 @@ pub mod PageCalls
 pub mod PagePlans
 pub mod Pages
 pub mod Planned
+pub mod Pushed
 pub mod Reindex
 pub mod Rereading
 pub mod Rooms

@@ -18,6 +18,3 @@ pub use heap::Heap;
 pub use laws::{allocation_law, freeing_law, fresh_heap_law, lane_law, owners_law};
 pub use pm_model::NoMemory;
 pub use reading::reopen;
-
-#[cfg(test)]
-mod tests;

@@ -9,6 +9,3 @@ mod stamps;
 
 pub use laws::stamps_law;
 pub use stamps::{push_dead, push_stamp, visible};
-
-#[cfg(test)]
-mod tests;

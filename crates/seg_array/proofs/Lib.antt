@@ -8,5 +8,4 @@ pub mod Planning
 pub mod Punches
 pub mod Rereading
 pub mod SmallPages
-pub mod TestImage
 pub mod Whole

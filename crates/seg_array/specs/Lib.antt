@@ -2,4 +2,3 @@ pub mod Calls
 pub mod Changes
 pub mod Growth
 pub mod Shown
-pub mod TestImage

@@ -2,13 +2,20 @@
 ghost use Rattle.std.specs.Prelude.{◌≡◌, ℕ, ◌<◌, List};
 ghost use Rattle.pm_model.specs.declared.action.Action.{Action};
 ghost use Rattle.pm_model.specs.Changes.{Survives};
-ghost use Rattle.image_layout.specs.Arrays.{array_rule, capacity, place_of};
+ghost use Rattle.image_layout.specs.Arrays.{array_rule, capacity, capacity_of, place_of};
 ghost use Rattle.image_layout.specs.Checks.{Keeps};
 ghost use Rattle.heap_palloc.specs.Index.{HeapIndex, IsIndexOf};
 ghost use Rattle.seg_array.specs.Calls.{IsTableArray, MayGoOn, MayPlanGrowth};
 ghost use Rattle.seg_array.specs.Changes.{growth};
 ghost use Rattle.seg_array.specs.Growth.{Growth};
 ghost use Rattle.seg_array.specs.Shown.{HasSameHeader};
+
+/// The numbers of an array: how many words its chunks have, so many of them. It has 12 at most.
+pub fn limits_law()
+    ensures few { (capacity_of 0 ≡ 0) × (capacity_of 1 ≡ 512) × (capacity_of 2 ≡ 1536) }
+    ensures doubling { (capacity_of 5 ≡ 15872) × (capacity_of 6 ≡ 32256) × (capacity_of 7 ≡ 48640) }
+    ensures most { capacity_of 12 ≡ 130560 }
+{}
 
 /// What is read of an array: where the count and the pointers of its header are the same, its rule holds, and no word of
 /// it moved.

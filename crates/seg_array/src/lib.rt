@@ -13,8 +13,5 @@ mod laws;
 pub use chunks::{capacity, place_of};
 pub use error::GrowError;
 pub use grow::plan_grow;
-pub use laws::{array_law, growth_law, table_array_law};
+pub use laws::{array_law, growth_law, limits_law, table_array_law};
 pub use pm_model::{MAX_CHUNKS, NoMemory};
-
-#[cfg(test)]
-mod tests;

@@ -1,4 +1,4 @@
-use Rattle.std.proofs.Common.{◌≡◌, ℕ, ◌*◌, ◌<◌, inl, inr, get_or, sym, ◌∙◌, ap, subst, arith}
+use Rattle.std.proofs.Common.{◌≡◌, ℕ, ◌*◌, ◌<◌, inl, inr, List, length, get_or, sym, ◌∙◌, ap, subst, arith}
 use Rattle.image_layout.specs.Blocks.{bitmap_of, slots_of}
 use Rattle.heap_small.specs.Bitmap.{IsFirstClear}
 use Rattle.heap_palloc.specs.Index.{HeapIndex}
@@ -51,3 +51,11 @@ returns-clause-planned g c =
     slot_planned (g.M.Memory.device c.args.mem.now) (g.met.M.Memory.whole c.args.mem.now) c.args.heap.now c.args.lane c.args.dest.0 c.requires.may c.args.class c.args.page c.requires.class c.requires.room.0 c.requires.room.1 c.requires.empty
     c.load-bitmap.result c.unwrap-slot.result c.with-marked.result c.slot_block-block.result.first.0 c.slot_block-block.result.words c.push_allocation.new.plan.left c.in_ok-plan.plan.left c.if-is_none.heap
     bitmap within clear c.with-marked.ensures.value c.slot_block-block.ensures.first c.slot_block-block.ensures.words c.push_allocation.ensures.left c.in_ok-plan.ensures.empty fills
+
+pub remove_room-requires : goal.remove_room-requires
+remove_room-requires g c =
+    let rooms = c.requires.room.1 in (
+      0,
+      subst (λ (pages : List ℕ). 0 < length pages) (sym rooms) (omega arith),
+      ap (λ (pages : List ℕ). get_or pages 0 c.args.page) rooms,
+    )

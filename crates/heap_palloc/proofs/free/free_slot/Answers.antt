@@ -3,6 +3,7 @@ use Rattle.heap_palloc.specs.Lane.{is_big_place}
 use Rattle.image_layout.specs.Fixed.{descriptor_at}
 use Rattle.pm_model.specs.Plans.{one_store, part_actions}
 use Rattle.heap_palloc.specs.Index.{HeapIndex}
+use Rattle.heap_palloc.proofs.Allocating.{dest_in_device}
 use Rattle.heap_palloc.proofs.Freeing.{slot_page, slot_value, slot_number, slot_page_in, slot_read, read_has_room, read_no_room, read_not_free, read_within, read_released, ReleasesAt, GaveBack, gave_back}
 use Rattle.heap_palloc.proofs.SlotCalls.{full_is}
 use Rattle.heap_palloc.proofs.free.free_slot.Goals as goal
@@ -99,3 +100,6 @@ returns-clause-freed g c =
     ] in
     read_released (g.M.Memory.device c.args.mem.now) (g.met.M.Memory.whole c.args.mem.now) c.args.heap.now c.args.lane c.args.dest.0 c.requires.may (sym (ap is_big_place c.requires.named) ∙ c.requires.small) c.requires.owned.0 c.requires.owned.1 c.args.first.0 c.new-class.result ((c.args.first.0 % 512 - 8) / c.class_words.result) c.load-bitmap.result c.without-clear.result (descriptor_at (c.args.first.0 / 512)) c.if-clear-eq0.plan.left c.push_freeing.new.plan.left c.in_ok-plan.plan.left c.if-clear-eq0.heap
     (slot_read (g.M.Memory.device c.args.mem.now) (g.met.M.Memory.whole c.args.mem.now) c.args.heap.now c.args.lane c.args.dest.0 c.requires.may (sym (ap is_big_place c.requires.named) ∙ c.requires.small) c.requires.owned.0 c.requires.owned.1 c.args.first.0 c.descriptor.result.0 c.load.result c.new-class.result c.class_words.result ((c.args.first.0 % 512 - 8) / c.class_words.result) c.from.result c.load-bitmap.result c.without-clear.result c.requires.named c.descriptor.ensures c.load.ensures c.new-class.ensures c.class_words.ensures refl c.from.ensures c.load-bitmap.ensures c.without-clear.ensures.value) c.requires.named c.push_freeing.ensures.left c.in_ok-plan.ensures.empty (λ zero. refl) ends releases
+
+pub push_freeing-requires-clause-owner : goal.push_freeing-requires-clause-owner
+push_freeing-requires-clause-owner g c = dest_in_device (g.M.Memory.device c.args.mem.now) (g.met.M.Memory.whole c.args.mem.now) c.args.heap.now c.args.lane c.args.dest.0 c.requires.may

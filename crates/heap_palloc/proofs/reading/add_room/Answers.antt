@@ -30,3 +30,6 @@ returns-else-is_some-clause-rooms g c = λ class lt.
     let bitmap : c.load-bitmap.result ≡ bitmap_of (g.M.Memory.device c.args.mem.now).cached c.args.page = c.load-bitmap.ensures ∙ ap (λ (p : ℕ). get_or (g.M.Memory.device c.args.mem.now).cached (512 * p) 0) c.from.ensures in
     add_miss (g.M.Memory.device c.args.mem.now).cached c.args.page c.new-class.result c.requires.small class_is (rooms_of c.args.heap.now)
     (ap (is_full c.new-class.result) (sym bitmap) ∙ full_is c.new-class.result c.load-bitmap.result c.first_free.result true c.first_free.ensures.none (sym c.is_some.ensures ∙ c.if-is_some.false)) class
+
+pub add_room-requires-clause-within : goal.add_room-requires-clause-within
+add_room-requires-clause-within g c = omega (arith, c.requires.in_image, (g.met.M.Memory.whole c.args.mem.now).most)

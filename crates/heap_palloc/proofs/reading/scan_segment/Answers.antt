@@ -1,5 +1,6 @@
-use Rattle.std.proofs.Common.{◌≡◌, ◌≢◌, ◌⊎◌, inl, inr, ℕ, ◌+◌, ◌*◌, ◌≤◌, false, get_or, refl, sym, ◌∙◌, ap, subst, arith}
+use Rattle.std.proofs.Common.{◌≡◌, ◌≢◌, ◌⊎◌, inl, inr, ℕ, ◌+◌, ◌*◌, ◌≤◌, ◌++◌, map, false, get_or, refl, sym, ◌∙◌, ap, subst, arith}
 use Rattle.std.specs.Vec.{vec_len, vec_capacity}
+use Rattle.std.specs.List.{range_with_len}
 use Rattle.image_layout.specs.Blocks.{descriptor_of, says_small}
 use Rattle.heap_palloc.proofs.Scans.{inside_step, small_hit, small_miss, value_more, small_done}
 use Rattle.heap_palloc.proofs.reading.scan_segment.Goals as goal
@@ -44,3 +45,9 @@ loop-page-preserved g c =
 
 pub returns-clause-small : goal.returns-clause-small
 returns-clause-small g c = small_done (g.M.Memory.device c.args.mem.now).cached (64 * c.args.segment) c.loop-page.page 64 c.args.scan.now.small.items c.loop-page.scan.small.items (omega (arith, c.loop-page-test.false, c.loop-page.auto.page-end)) c.loop-page.invariant.small
+
+pub returns-clause-descriptors : goal.returns-clause-descriptors
+returns-clause-descriptors g c =
+    let words = (g.M.Memory.device c.args.mem.now).cached in
+    let all : c.loop-page.page ≡ 64 = omega (arith, c.loop-page-test.false, c.loop-page.auto.page-end) in
+    c.loop-page.invariant.descriptors ∙ ap (λ (n : ℕ). c.args.scan.now.descriptors.items ++ map (descriptor_of words) (range_with_len (64 * c.args.segment) n)) all
