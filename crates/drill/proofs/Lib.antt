@@ -1,0 +1,5 @@
+pub mod Telling
+pub mod Choices
+pub mod Bounds
+pub mod Moves
+pub mod Following

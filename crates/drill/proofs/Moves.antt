@@ -1,0 +1,98 @@
+-- Each move of a schedule fits how the sessions stand.
+use Rattle.std.proofs.Common.{◌≡◌, ℕ, zero, suc, ◌+◌, ◌≤◌, Bool, true, false, List, [], ◌∷◌, length, refl, inl, inr, arith}
+use Rattle.std.specs.Prelude.{◌%◌, if◌then◌else◌, Option, None, Some}
+use Rattle.std.proofs.lemmas.Bool.{cases_Bool}
+use Rattle.drill.specs.declared.schedule.Standing.{Standing}
+use Rattle.drill.specs.declared.schedule.Standing.TheVariants.{Blocked, Done, Ready, Running}
+use Rattle.drill.specs.declared.schedule.Move.{Move}
+use Rattle.drill.specs.declared.schedule.Move.TheVariants.{Stuck}
+use Rattle.drill.specs.Draws.{draw}
+use Rattle.drill.specs.Laws.{Fits}
+use Rattle.drill.specs.Schedule.{first_going, is_done, move_at, move_of, picked, standing_of, start_or, step_behind, step_or, upwards}
+
+step-fits : (sessions : List Standing) (session : ℕ) (held : Standing) (in_place : ℕ → Move) → standing_of sessions session ≡ held
+    → Fits sessions Stuck → ((holder : ℕ) → Fits sessions (in_place holder)) → Fits sessions (step_or held session in_place)
+step-fits sessions session Running in_place is stuck goes_on = is
+step-fits sessions session (Blocked holder) in_place is stuck goes_on = goes_on holder
+step-fits sessions session Ready in_place is stuck goes_on = stuck
+step-fits sessions session Done in_place is stuck goes_on = stuck
+
+-- behind a blocked session
+behind-fits : (sessions : List Standing) (count session : ℕ) → Fits sessions Stuck → Fits sessions (step_behind sessions count session)
+behind-fits sessions zero session stuck = stuck
+behind-fits sessions (suc count) session stuck =
+    step-fits sessions session (standing_of sessions session) (step_behind sessions count) refl stuck (λ holder. behind-fits sessions count holder stuck)
+
+start-fits : (sessions : List Standing) (session : ℕ) (held : Standing) → standing_of sessions session ≡ held → is_done held ≡ false
+    → Fits sessions (start_or held session (step_or held session (step_behind sessions 3)))
+start-fits sessions session Done is going = absurd (let e : true ≡ false = going in cc)
+start-fits sessions session Ready is going = is
+start-fits sessions session Running is going = is
+start-fits sessions session (Blocked holder) is going = behind-fits sessions 3 holder (session, holder, is)
+
+-- the session that is found is not done
+found-goes : (sessions : List Standing) (count from session : ℕ) → first_going sessions count from ≡ Some session → is_done (standing_of sessions session) ≡ false
+found-goes sessions zero from session found = absurd (let e : None ≡ Some session = found in cc)
+found-goes sessions (suc count) from session found =
+    elim (cases_Bool (is_done (standing_of sessions from))) [
+      | inl done ↦ found-goes sessions count (upwards from) session (rw done at found)
+      | inr going ↦
+          let e : Some from ≡ Some session = rw going at found in
+          let same : from ≡ session = cc in
+          rw (← same) going
+    ]
+
+-- none of four is found
+none-goes : (a b c d : Bool) (w x y z : ℕ)
+    → (if a then (if b then (if c then (if d then None else Some z) else Some y) else Some x) else Some w) ≡ None
+    → (a ≡ true) × (b ≡ true) × (c ≡ true) × (d ≡ true)
+none-goes true true true true w x y z e = (refl, refl, refl, refl)
+none-goes true true true false w x y z e = absurd (let f : Some z ≡ None = e in cc)
+none-goes true true false d w x y z e = absurd (let f : Some y ≡ None = e in cc)
+none-goes true false c d w x y z e = absurd (let f : Some x ≡ None = e in cc)
+none-goes false b c d w x y z e = absurd (let f : Some w ≡ None = e in cc)
+
+at-places : (a b c d : Standing) → is_done a ≡ true → is_done b ≡ true → is_done c ≡ true → is_done d ≡ true
+    → (session : ℕ) → is_done (standing_of (a ∷ b ∷ c ∷ d ∷ []) session) ≡ true
+at-places a b c d p q r s zero = refl
+at-places a b c d p q r s (suc zero) = p
+at-places a b c d p q r s (suc (suc zero)) = q
+at-places a b c d p q r s (suc (suc (suc zero))) = r
+at-places a b c d p q r s (suc (suc (suc (suc zero)))) = s
+at-places a b c d p q r s (suc (suc (suc (suc (suc more))))) = refl
+
+four-done : (a b c d : Standing) (from : ℕ) → 1 ≤ from → from ≤ 4 → first_going (a ∷ b ∷ c ∷ d ∷ []) 4 from ≡ None
+    → (session : ℕ) → is_done (standing_of (a ∷ b ∷ c ∷ d ∷ []) session) ≡ true
+four-done a b c d zero low high none = absurd (omega arith)
+four-done a b c d (suc zero) low high none =
+    let done = none-goes (is_done a) (is_done b) (is_done c) (is_done d) 1 2 3 4 none in
+    at-places a b c d done.0 done.1 done.2 done.3
+four-done a b c d (suc (suc zero)) low high none =
+    let done = none-goes (is_done b) (is_done c) (is_done d) (is_done a) 2 3 4 1 none in
+    at-places a b c d done.3 done.0 done.1 done.2
+four-done a b c d (suc (suc (suc zero))) low high none =
+    let done = none-goes (is_done c) (is_done d) (is_done a) (is_done b) 3 4 1 2 none in
+    at-places a b c d done.2 done.3 done.0 done.1
+four-done a b c d (suc (suc (suc (suc zero)))) low high none =
+    let done = none-goes (is_done d) (is_done a) (is_done b) (is_done c) 4 1 2 3 none in
+    at-places a b c d done.1 done.2 done.3 done.0
+four-done a b c d (suc (suc (suc (suc (suc more))))) low high none = absurd (omega arith)
+
+all-done : (sessions : List Standing) (from : ℕ) → length sessions ≡ 4 → 1 ≤ from → from ≤ 4 → first_going sessions 4 from ≡ None
+    → (session : ℕ) → is_done (standing_of sessions session) ≡ true
+all-done (a ∷ b ∷ c ∷ d ∷ []) from four low high none = four-done a b c d from low high none
+all-done (a ∷ b ∷ c ∷ d ∷ e ∷ rest) from four low high none = absurd (omega arith)
+all-done (a ∷ b ∷ c ∷ []) from four low high none = absurd (omega arith)
+all-done (a ∷ b ∷ []) from four low high none = absurd (omega arith)
+all-done (a ∷ []) from four low high none = absurd (omega arith)
+all-done [] from four low high none = absurd (omega arith)
+
+move-fits : (sessions : List Standing) (from : ℕ) (found : Option ℕ) → length sessions ≡ 4 → 1 ≤ from → from ≤ 4 → first_going sessions 4 from ≡ found
+    → Fits sessions (move_of sessions found)
+move-fits sessions from None four low high is = all-done sessions from four low high is
+move-fits sessions from (Some session) four low high is =
+    start-fits sessions session (standing_of sessions session) refl (found-goes sessions 4 from session is)
+
+pub moves-fit : (number turn : ℕ) (sessions : List Standing) → length sessions ≡ 4 → Fits sessions (move_at number turn sessions)
+moves-fit number turn sessions four =
+    move-fits sessions (picked number turn) (first_going sessions 4 (picked number turn)) four (omega arith) (omega arith) refl

@@ -1,0 +1,55 @@
+-- What holds of scripts and schedules, whatever the number.
+use Rattle.std.specs.Prelude.{ℕ, ◌≡◌, ◌+◌, ◌<◌, ◌≤◌, not, Bool, true, false, All, List, ◌∷◌, ◌++◌, length}
+use Rattle.mv_model.specs.declared.call.Call.{Call}
+use Rattle.mv_model.specs.declared.call.Call.TheVariants as call
+use Rattle.script_text.specs.declared.script.Line.{Line}
+use Rattle.script_text.specs.declared.script.Line.TheVariants as line
+use Rattle.script_text.specs.Script.{ordinal_after}
+use Rattle.drill.specs.declared.schedule.Standing.{Standing}
+use Rattle.drill.specs.declared.schedule.Standing.TheVariants.{Blocked, Ready, Running}
+use Rattle.drill.specs.declared.schedule.Move.{Move}
+use Rattle.drill.specs.declared.schedule.Move.TheVariants.{Start, Step, Stuck, Over}
+use Rattle.drill.specs.Calls.{creation}
+use Rattle.drill.specs.Script.{is_open, script_of}
+use Rattle.drill.specs.Schedule.{is_done, move_at, standing_of}
+
+abbrev pub is_creation : Call → Bool
+is_creation (call.Create table columns) = true
+is_creation other = false
+
+abbrev pub is_begin : Call → Bool
+is_begin call.Begin = true
+is_begin other = false
+
+-- the line is what one of the sessions 1 to 4 says, and creates no table
+abbrev pub IsStatement : Line → Type 0
+IsStatement (line.Say session ordinal said) = (1 ≤ session) × (session ≤ 4) × (is_creation said ≡ false)
+IsStatement (line.Await session on nth) = ⊥
+
+-- a script is the creation of its table, and behind it exactly so many statements
+abbrev pub HasOneCreation : Type 0
+HasOneCreation = (number statements : ℕ) → (said : List Line)
+    × (script_of number statements ≡ line.Say 1 1 creation ∷ said) × (length said ≡ statements) × All IsStatement said
+
+-- behind the earlier lines the line is its session's next, and a begin exactly where the session has no transaction open
+abbrev pub Follows : List Line → Line → Type 0
+Follows earlier (line.Say session ordinal said) =
+    (ordinal ≡ ordinal_after earlier session + 1) × (is_begin said ≡ not (is_open earlier session))
+Follows earlier (line.Await session on nth) = ⊥
+
+-- each line of a script but the creation follows those before it
+abbrev pub EachFollows : Type 0
+EachFollows = (number statements : ℕ) (earlier later : List Line) (said : Line)
+    → script_of number statements ≡ earlier ++ said ∷ later → 0 < length earlier → Follows earlier said
+
+-- The move fits how the sessions stand: one that starts has a statement left and no call in flight, the call of one
+-- that steps goes on, none steps only where one is blocked, and the run is over only where every session is done.
+abbrev pub Fits : List Standing → Move → Type 0
+Fits sessions (Start session) = standing_of sessions session ≡ Ready
+Fits sessions (Step session) = standing_of sessions session ≡ Running
+Fits sessions Stuck = (session : ℕ) × (holder : ℕ) × (standing_of sessions session ≡ Blocked holder)
+Fits sessions Over = (session : ℕ) → is_done (standing_of sessions session) ≡ true
+
+-- each move fits
+abbrev pub MovesFit : Type 0
+MovesFit = (number turn : ℕ) (sessions : List Standing) → length sessions ≡ 4 → Fits sessions (move_at number turn sessions)

@@ -1,0 +1,6 @@
+pub mod Draws
+pub mod Calls
+pub mod Script
+pub mod Tally
+pub mod Schedule
+pub mod Laws
