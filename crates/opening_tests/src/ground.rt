@@ -1,6 +1,7 @@
 // Images that are built word by word, and what stands in them.
 use pm_model::{NoMemory, fresh};
 use std::alloc::Global;
+use test_ground::set_words;
 
 /// A word by its place, and what it becomes.
 pub(crate) type Change = (usize, u64);
@@ -26,15 +27,6 @@ pub(crate) const LAST_PAGE: u64 = 4_294_999_552;
 
 /// The pointer to page 5.
 pub(crate) const PAGE_5: u64 = 4_294_969_856;
-
-/// Sets words, those in the image.
-fn set_words(words: &mut [u64], changes: &[Change]) {
-    for (place, word) in changes {
-        if *place < words.len() {
-            words[*place] = *word;
-        }
-    }
-}
 
 /// A formatted image of one segment in which words were changed, list by list.
 pub(crate) fn image(alloc: Global, lists: &[&[Change]]) -> Result<Vec<u64>, NoMemory> {

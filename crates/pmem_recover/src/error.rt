@@ -6,7 +6,4 @@ pub enum EntryError {
     /// The numbered rule that is the first not kept, and the place of the first word that breaks it.
     #[error("the image breaks rule {rule} at word {place}")]
     BadImage { rule: u8, place: u32 },
-    /// A request for memory was refused.
-    #[error("out of memory")]
-    NoMemory,
 }

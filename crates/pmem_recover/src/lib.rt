@@ -32,6 +32,3 @@ pub use objects::{next_idle, next_last};
 pub use pm_model::NoMemory;
 pub use slot::next_slot;
 pub use undo::next_undo;
-
-#[cfg(test)]
-mod tests;

@@ -1,0 +1,14 @@
+use Rattle.pmem_recover.proofs.FirstFault.{entry-lanes, entry-undo}
+use Rattle.opening_tests.proofs.step_tests.step_plan.Goals as goal
+
+pub next_lane-requires : goal.next_lane-requires
+next_lane-requires g c = entry-lanes (g.M.Memory.device c.args.memory.now).cached c.requires
+
+pub next_slot-requires : goal.next_slot-requires
+next_slot-requires g c = (entry-undo (g.M.Memory.device c.args.memory.now).cached c.requires).table_slots
+
+pub next_undo-requires : goal.next_undo-requires
+next_undo-requires g c = entry-undo (g.M.Memory.device c.args.memory.now).cached c.requires
+
+pub next_clear-requires : goal.next_clear-requires
+next_clear-requires g c = (entry-undo (g.M.Memory.device c.args.memory.now).cached c.requires).objects
