@@ -7,7 +7,7 @@ use Rattle.session_serve.specs.declared.playing.Ending.TheVariants as ending
 use Rattle.session_serve.specs.declared.status.Status.{Status}
 use Rattle.session_serve.specs.declared.status.Status.TheVariants as status
 use Rattle.session_serve.specs.Parts.{IsNoImage, IsNoScript, IsWritten, LeavesBy, RanWords, Takes}
-use Rattle.session_serve.specs.Runs.{EndsFormat, EndsScript, Leaving, ReadsImage, ReadsScript, Streams, TakesInput, Told, Writing, WrittenRun, streams}
+use Rattle.session_serve.specs.Runs.{EndsFormat, EndsScript, Leaving, ReadsImage, ReadsScript, Streams, TakesInput, Told, Writing, WhenWritten, WrittenRun, streams}
 
 -- a run was written
 pub ran-words : (given : Status) (end : Ending) (cut : Option ℕ) (keep : Keep) (words : List ℕ) (script : List Line) (before after : Streams) (image text : List ℕ)
@@ -32,8 +32,8 @@ module _ (cut : Option ℕ) (keep : Keep) (image image_now input input_now image
   -- no image was read, and the input was left alone
   pub ends-no_image : (given : Status) → IsNoImage given image image_now → EndsScript given cut keep (streams image input image_out out) (streams image_now input image_out out)
   ends-no_image (status.BadBytes error) is = (is, refl)
-  ends-no_image status.ReadFault is = tt
-  ends-no_image status.NoMemory is = tt
+  ends-no_image status.ReadFault is = inl refl
+  ends-no_image status.NoMemory is = inl refl
   ends-no_image status.InputTooLong is = inl (is, refl)
   ends-no_image status.Done is = absurd is
   ends-no_image status.Usage is = absurd is
@@ -46,8 +46,8 @@ module _ (cut : Option ℕ) (keep : Keep) (image image_now input input_now image
   pub ends-no_script : (given : Status) (words : List ℕ) → ReadsImage image image_now words → IsNoScript given input input_now
       → EndsScript given cut keep (streams image input image_out out) (streams image_now input_now image_out out)
   ends-no_script (status.BadScript number rule) words read is = record { words = words; read_image = read; read_script = is }
-  ends-no_script status.ReadFault words read is = tt
-  ends-no_script status.NoMemory words read is = tt
+  ends-no_script status.ReadFault words read is = inr (words, read)
+  ends-no_script status.NoMemory words read is = inr (words, read)
   ends-no_script status.InputTooLong words read is = inr ((words, read), is)
   ends-no_script status.Done words read is = absurd is
   ends-no_script status.Usage words read is = absurd is
@@ -89,7 +89,7 @@ module _ (cut : Option ℕ) (keep : Keep) (image image_now input input_now image
       run = record { image = ran.image; text = ran.text; left = ran.left; written = ran.written };
     })
     ends-ran (status.BadImage rule place) ran = record { words = words; script = script; read_image = read; read_script = said; fault_is = ran }
-    ends-ran status.NoMemory ran = tt
+    ends-ran status.NoMemory ran = inr (words, read)
     ends-ran status.Usage ran = absurd ran
     ends-ran (status.BadScript number rule) ran = absurd ran
     ends-ran (status.BadBytes error) ran = absurd ran
@@ -119,3 +119,14 @@ takes-on {A} given result value (Some xs) (Some ys) is takes =
   where
     not_both : Ok value ≡ Err status.InputTooLong → ⊥
     not_both e = cc
+
+-- nothing was written where nothing was read
+pub unread-image : (given : Status) (before after : Told) (claim : Type 0) → IsNoImage given before after → WhenWritten given claim
+unread-image status.Done before after claim is = absurd is
+unread-image status.PowerCut before after claim is = absurd is
+unread-image given before after claim is = tt
+
+pub unread-script : (given : Status) (before after : Told) (claim : Type 0) → IsNoScript given before after → WhenWritten given claim
+unread-script status.Done before after claim is = absurd is
+unread-script status.PowerCut before after claim is = absurd is
+unread-script given before after claim is = tt

@@ -149,6 +149,11 @@ pub record RefusedImage (fault : Fault) (before after : Streams) : Type 0 where
   pub read_script : ReadsScript before.input after.input (Ok script)
   pub fault_is : opening_fault words ≡ Some fault
 
+-- the script was left alone, or the image was read before it
+abbrev pub ReadsInOrder : Streams → Streams → Type 0
+ReadsInOrder before after =
+    (after.input ≡ before.input) ⊎ ((words : List ℕ) × ReadsImage before.image after.image words)
+
 -- one of the inputs is too long: the image, or the script behind an image that was read
 abbrev pub HasTooLong : Streams → Streams → Type 0
 HasTooLong before after =
@@ -165,10 +170,10 @@ EndsScript (status.BadBytes error) cut keep before after =
 EndsScript (status.BadImage rule place) cut keep before after =
     RefusedImage (record { rule = rule; place = place }) before after
 EndsScript status.PowerCut cut keep before after = RanScript (IsCutOff cut keep) WritesAll before after
-EndsScript status.ReadFault cut keep before after = Unit {0}
+EndsScript status.ReadFault cut keep before after = ReadsInOrder before after
 EndsScript status.WriteFault cut keep before after =
     RanScript (Finishes cut) WritesFront before after ⊎ RanScript (IsCutOff cut keep) WritesFront before after
-EndsScript status.NoMemory cut keep before after = Unit {0}
+EndsScript status.NoMemory cut keep before after = ReadsInOrder before after
 EndsScript status.InputTooLong cut keep before after = HasTooLong before after
 
 -- what `format` has done, where it ends with this status
@@ -204,6 +209,18 @@ UnlessWritten status.Done claim = Unit {0}
 UnlessWritten status.PowerCut claim = Unit {0}
 UnlessWritten status.WriteFault claim = Unit {0}
 UnlessWritten other claim = claim
+
+-- this holds where the image and the text were written, or the image alone was to be
+abbrev pub WhenWritten : Status → Type 0 → Type 0
+WhenWritten status.Done claim = claim
+WhenWritten status.PowerCut claim = claim
+WhenWritten other claim = Unit {0}
+
+-- this holds where the job reads and prints
+abbrev pub WhenScript : Option Job → Type 0 → Type 0
+WhenScript None claim = Unit {0}
+WhenScript (Some (job.Format segments)) claim = Unit {0}
+WhenScript (Some (job.Script cut keep)) claim = claim
 
 -- at most one byte past the limit was taken, and that one only where the input is answered to be too long
 abbrev pub TakesInput : Status → Told → Told → Type 0

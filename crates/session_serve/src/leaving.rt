@@ -9,7 +9,7 @@ ghost use Rattle.script_text.specs.Script.{IsBuiltLine};
 ghost use Rattle.session_serve.specs.Parts.{LeavesBy, kept_by};
 ghost use Rattle.session_serve.specs.Playing.{IsFresh};
 
-use crate::playing::{Ending, run_core};
+use crate::playing::{Ending, play_script};
 use engine_core::{Core, OpenError};
 use mv_model::NoMemory;
 use pm_image::encode;
@@ -56,7 +56,7 @@ fn play_core<M: Memory>(
     ensures { IfOk result (λ left. (words : List ℕ) → opening_fault words ≡ None → core.old.opened ≡ recovered words
         → LeavesBy left.ending cut keep words script left.image.items left.text.items) }
 {
-    let ending = run_core(core, script, cut)?;
+    let ending = play_script(core, script, cut)?;
     let text = print_history(alloc, core.history())?;
     let image = image_bytes(alloc, core.memory(), kept(ending, keep))?;
     Ok(Left {
@@ -91,6 +91,14 @@ pub(crate) fn play(
     ensures left { IfOk result (λ left. LeavesBy left.ending cut keep words.items script left.image.items left.text.items) }
     ensures refused { IfErr result (λ error. IsRefusal error (opening_fault words.items)) }
 {
-    let mut core = open(alloc, words)?;
-    Ok(play_core(alloc, &mut core, script, cut, keep)?)
+    let mut core = match open(alloc, words) {
+        Ok(core) => core,
+        Err(error) => {
+            drop(script);
+            return Err(error);
+        }
+    };
+    let left = play_core(alloc, &mut core, script, cut, keep);
+    drop(core);
+    Ok(left?)
 }

@@ -48,7 +48,7 @@ fn go_on<M: Memory>(core: &mut Core<M>)
 }
 
 /// Steps the call in flight to its reply, or to the power cut.
-fn run_call<M: Memory>(core: &mut Core<M>, cut: Option<u64>) -> Ending
+fn step_to_reply<M: Memory>(core: &mut Core<M>, cut: Option<u64>) -> Ending
     requires before { IsBefore cut core.old.played }
     requires counted { IsCounted core.old }
     requires idle { core.old.in_flight ≢ Nothing }
@@ -69,7 +69,11 @@ fn run_call<M: Memory>(core: &mut Core<M>, cut: Option<u64>) -> Ending
 }
 
 /// Starts a call, and steps it to its reply, or to the power cut.
-fn run_said<M: Memory>(core: &mut Core<M>, said: Call, cut: Option<u64>) -> Result<Ending, NoMemory>
+fn start_and_step<M: Memory>(
+    core: &mut Core<M>,
+    said: Call,
+    cut: Option<u64>,
+) -> Result<Ending, NoMemory>
     requires served { IsTrue (is_served said) }
     requires idle { core.old.in_flight ≡ Nothing }
     requires room { core.old.started < 2 ^ 32 - 1 }
@@ -82,11 +86,15 @@ fn run_said<M: Memory>(core: &mut Core<M>, said: Call, cut: Option<u64>) -> Resu
     ensures ends { IfOk result (λ ending. EndsCall ending cut core.new) }
 {
     core.start(1, said)?;
-    Ok(run_call(core, cut))
+    Ok(step_to_reply(core, cut))
 }
 
 /// Runs the statement of a line to its reply, or to the power cut.
-fn run_line<M: Memory>(core: &mut Core<M>, line: Line, cut: Option<u64>) -> Result<Ending, NoMemory>
+fn answer_line<M: Memory>(
+    core: &mut Core<M>,
+    line: Line,
+    cut: Option<u64>,
+) -> Result<Ending, NoMemory>
     requires built { IsBuiltLine line }
     requires idle { core.old.in_flight ≡ Nothing }
     requires room { core.old.started < 2 ^ 32 - 1 }
@@ -99,13 +107,13 @@ fn run_line<M: Memory>(core: &mut Core<M>, line: Line, cut: Option<u64>) -> Resu
     ensures ends { IfOk result (λ ending. EndsCall ending cut core.new) }
 {
     match line {
-        Line::Say { call, .. } => run_said(core, call, cut),
+        Line::Say { call, .. } => start_and_step(core, call, cut),
         Line::Await { .. } => unreachable!(),
     }
 }
 
 /// Runs the lines one after the other, to the end or to the power cut.
-fn run_lines<M: Memory>(
+fn answer_lines<M: Memory>(
     core: &mut Core<M>,
     lines: Vec<Line>,
     cut: Option<u64>,
@@ -118,7 +126,7 @@ fn run_lines<M: Memory>(
     ensures ends { IfOk result (λ ending. EndsLines ending cut lines.items core.new) }
 {
     for line in lines {
-        match run_line(core, line, cut)? {
+        match answer_line(core, line, cut)? {
             Ending::Finished => {}
             Ending::Cut => return Ok(Ending::Cut),
         }
@@ -127,7 +135,7 @@ fn run_lines<M: Memory>(
 }
 
 /// Runs a script over a core that was just opened, to the end or to the power cut.
-pub(crate) fn run_core<M: Memory>(
+pub(crate) fn play_script<M: Memory>(
     core: &mut Core<M>,
     script: Script,
     cut: Option<u64>,
@@ -140,5 +148,5 @@ pub(crate) fn run_core<M: Memory>(
     if is_cut_at(cut, core.played()) && !script.is_empty() {
         return Ok(Ending::Cut);
     }
-    run_lines(core, script.into_vec(), cut)
+    answer_lines(core, script.into_vec(), cut)
 }

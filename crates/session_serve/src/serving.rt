@@ -1,13 +1,13 @@
-ghost use Rattle.std.specs.Prelude.{◌≡◌, ◌⊎◌, ◌<◌, ◌≤◌, List, ℕ, Ok, None, All, IfOk, IfErr, IfSome, IsErrOf, OnErr, OnOk, map, length, string_bytes};
+ghost use Rattle.std.specs.Prelude.{◌≡◌, ◌≢◌, ◌⊎◌, true, ◌<◌, ◌≤◌, List, ℕ, Ok, None, All, IfOk, IfErr, IfSome, IsErrOf, OnErr, OnOk, map, length, string_bytes};
 ghost use Rattle.std.specs.Io.KnownBytes.{Appends};
-ghost use Rattle.io_edge.specs.Faults.{HasCause, Rose};
+ghost use Rattle.io_edge.specs.Faults.{HasCause, Rose, UnlessErr};
 ghost use Rattle.io_edge.specs.declared.reading.TheConstants.{LIMIT};
 ghost use Rattle.pm_image.specs.Spelling.{IsImage, spelling};
 ghost use Rattle.engine_core.specs.Opening.{opening_fault};
 ghost use Rattle.engine_core.specs.Stage.{stage_words};
 ghost use Rattle.script_text.specs.Script.{IsBuiltLine};
 ghost use Rattle.session_serve.specs.Words.{job_of};
-ghost use Rattle.session_serve.specs.Runs.{AppendsFront, AreWordsOf, Ends, EndsFormat, EndsScript, MayEnd, ReadsImage, ReadsScript, ReadsToEnd, TakesInput, UnlessScript, UnlessWritten, streams};
+ghost use Rattle.session_serve.specs.Runs.{AppendsFront, AreWordsOf, Ends, EndsFormat, EndsScript, MayEnd, ReadsImage, ReadsScript, ReadsToEnd, TakesInput, UnlessScript, UnlessWritten, WhenScript, WhenWritten, streams};
 ghost use Rattle.session_serve.specs.Parts.{IsNoImage, IsNoScript, IsUnread, IsWritten, RanWords, Takes};
 ghost use Rattle.session_serve.specs.declared.status.Status.TheVariants as status;
 
@@ -29,6 +29,7 @@ fn read_bytes<S: Source>(alloc: Global, from: &mut S) -> Result<Vec<u8>, Status>
     ensures taken { Takes result (S.left from.old) (S.left from.new) }
     ensures later { S.faults from.old ≤ S.faults from.new }
     ensures fault { IsErrOf result status.ReadFault → Rose (S.faults from.old) (S.faults from.new) }
+    ensures kept { UnlessErr result status.ReadFault (S.faults from.new ≡ S.faults from.old) }
 {
     match read_all(alloc, from) {
         Ok(bytes) => Ok(bytes),
@@ -46,6 +47,7 @@ fn read_image<S: Source>(alloc: Global, from: &mut S) -> Result<Vec<u64>, Status
     ensures taken { Takes result (S.left from.old) (S.left from.new) }
     ensures later { S.faults from.old ≤ S.faults from.new }
     ensures fault { IsErrOf result status.ReadFault → Rose (S.faults from.old) (S.faults from.new) }
+    ensures kept { UnlessErr result status.ReadFault (S.faults from.new ≡ S.faults from.old) }
 {
     let bytes = read_bytes(alloc, from)?;
     match decode(alloc, &bytes) {
@@ -63,6 +65,7 @@ fn read_lines<S: Source>(alloc: Global, from: &mut S) -> Result<Script, Status>
     ensures taken { Takes result (S.left from.old) (S.left from.new) }
     ensures later { S.faults from.old ≤ S.faults from.new }
     ensures fault { IsErrOf result status.ReadFault → Rose (S.faults from.old) (S.faults from.new) }
+    ensures kept { UnlessErr result status.ReadFault (S.faults from.new ≡ S.faults from.old) }
 {
     let bytes = read_bytes(alloc, from)?;
     match read_script(alloc, &bytes) {
@@ -76,6 +79,7 @@ fn read_lines<S: Source>(alloc: Global, from: &mut S) -> Result<Script, Status>
 fn write_bytes<O: Sink>(bytes: &[u8], to: &mut O) -> Result<(), Failed>
     ensures all { OnOk result (Appends (O.held to.old) (O.held to.new) bytes.now) }
     ensures front { OnErr result (AppendsFront (O.held to.old) (O.held to.new) bytes.now) }
+    ensures flushed { OnOk result (O.flushed to.new ≡ true) }
     ensures cause { HasCause (O.faults to.old) (O.faults to.new) result }
 {
     write_all(to, bytes)?;
@@ -87,10 +91,14 @@ fn write_left<J: Sink, O: Sink>(left: &Left, image_out: &mut J, out: &mut O) -> 
     ensures written { IsWritten left.now.ending result
         (streams None None (J.held image_out.old) (O.held out.old))
         (streams None None (J.held image_out.new) (O.held out.new)) left.now.image.items left.now.text.items }
+    ensures image_flushed { WhenWritten result (J.flushed image_out.new ≡ true) }
+    ensures flushed { WhenWritten result (O.flushed out.new ≡ true) }
     ensures image_later { J.faults image_out.old ≤ J.faults image_out.new }
     ensures later { O.faults out.old ≤ O.faults out.new }
     ensures fault { result ≡ status.WriteFault
         → Rose (J.faults image_out.old) (J.faults image_out.new) ⊎ Rose (O.faults out.old) (O.faults out.new) }
+    ensures image_kept { result ≢ status.WriteFault → J.faults image_out.new ≡ J.faults image_out.old }
+    ensures kept { result ≢ status.WriteFault → O.faults out.new ≡ O.faults out.old }
 {
     if write_bytes(&left.image, image_out).is_err() || write_bytes(&left.text, out).is_err() {
         return Status::WriteFault;
@@ -102,7 +110,7 @@ fn write_left<J: Sink, O: Sink>(left: &Left, image_out: &mut J, out: &mut O) -> 
 }
 
 /// Runs a script over the image of these words, and writes what it leaves.
-fn run_words<J: Sink, O: Sink>(
+fn play_and_write<J: Sink, O: Sink>(
     alloc: Global,
     words: Vec<u64>,
     script: Script,
@@ -118,10 +126,14 @@ fn run_words<J: Sink, O: Sink>(
         (streams None None (J.held image_out.new) (O.held out.new)) }
     ensures image_unwritten { UnlessWritten result (image_out.new ≡ image_out.old) }
     ensures unwritten { UnlessWritten result (out.new ≡ out.old) }
+    ensures image_flushed { WhenWritten result (J.flushed image_out.new ≡ true) }
+    ensures flushed { WhenWritten result (O.flushed out.new ≡ true) }
     ensures image_later { J.faults image_out.old ≤ J.faults image_out.new }
     ensures later { O.faults out.old ≤ O.faults out.new }
     ensures fault { result ≡ status.WriteFault
         → Rose (J.faults image_out.old) (J.faults image_out.new) ⊎ Rose (O.faults out.old) (O.faults out.new) }
+    ensures image_kept { result ≢ status.WriteFault → J.faults image_out.new ≡ J.faults image_out.old }
+    ensures kept { result ≢ status.WriteFault → O.faults out.new ≡ O.faults out.old }
 {
     match play(alloc, words, script, cut, keep) {
         Ok(left) => write_left(&left, image_out, out),
@@ -131,7 +143,7 @@ fn run_words<J: Sink, O: Sink>(
 }
 
 /// Reads an image and a script, runs the script over the image, and writes what it leaves.
-fn run_script<I: Source, S: Source, J: Sink, O: Sink>(
+fn read_and_play<I: Source, S: Source, J: Sink, O: Sink>(
     alloc: Global,
     cut: Option<u64>,
     keep: Keep,
@@ -149,12 +161,18 @@ fn run_script<I: Source, S: Source, J: Sink, O: Sink>(
         → Rose (I.faults image.old) (I.faults image.new) ⊎ Rose (S.faults input.old) (S.faults input.new) }
     ensures image_read_later { I.faults image.old ≤ I.faults image.new }
     ensures read_later { S.faults input.old ≤ S.faults input.new }
+    ensures image_read_kept { result ≢ status.ReadFault → I.faults image.new ≡ I.faults image.old }
+    ensures read_kept { result ≢ status.ReadFault → S.faults input.new ≡ S.faults input.old }
     ensures write_fault { result ≡ status.WriteFault
         → Rose (J.faults image_out.old) (J.faults image_out.new) ⊎ Rose (O.faults out.old) (O.faults out.new) }
     ensures image_write_later { J.faults image_out.old ≤ J.faults image_out.new }
     ensures write_later { O.faults out.old ≤ O.faults out.new }
+    ensures image_write_kept { result ≢ status.WriteFault → J.faults image_out.new ≡ J.faults image_out.old }
+    ensures write_kept { result ≢ status.WriteFault → O.faults out.new ≡ O.faults out.old }
     ensures image_unwritten { UnlessWritten result (image_out.new ≡ image_out.old) }
     ensures unwritten { UnlessWritten result (out.new ≡ out.old) }
+    ensures image_flushed { WhenWritten result (J.flushed image_out.new ≡ true) }
+    ensures flushed { WhenWritten result (O.flushed out.new ≡ true) }
 {
     let words = match read_image(alloc, image) {
         Ok(words) => words,
@@ -164,17 +182,19 @@ fn run_script<I: Source, S: Source, J: Sink, O: Sink>(
         Ok(script) => script,
         Err(status) => return status,
     };
-    run_words(alloc, words, script, cut, keep, image_out, out)
+    play_and_write(alloc, words, script, cut, keep, image_out, out)
 }
 
 /// Writes the image of a formatted device.
-fn run_format<J: Sink>(alloc: Global, segments: u32, image_out: &mut J) -> Status
+fn format_and_write<J: Sink>(alloc: Global, segments: u32, image_out: &mut J) -> Status
     requires one_or_more { 1 ≤ segments }
     requires most { segments ≤ 128 }
     ensures ends { EndsFormat result segments
         (streams None None (J.held image_out.old) None) (streams None None (J.held image_out.new) None) }
     ensures later { J.faults image_out.old ≤ J.faults image_out.new }
     ensures fault { result ≡ status.WriteFault → Rose (J.faults image_out.old) (J.faults image_out.new) }
+    ensures kept { result ≢ status.WriteFault → J.faults image_out.new ≡ J.faults image_out.old }
+    ensures flushed { WhenWritten result (J.flushed image_out.new ≡ true) }
     ensures unwritten { UnlessWritten result (image_out.new ≡ image_out.old) }
 {
     let Ok(words) = stage_fresh(alloc, segments) else {
@@ -218,15 +238,23 @@ pub fn run<I: Source, S: Source, J: Sink, O: Sink>(
     ensures image_taken { TakesInput result (I.left image.old) (I.left image.new) }
     ensures taken { TakesInput result (S.left input.old) (S.left input.new) }
 
-    // A fault is answered only where a stream's count rose, and no count falls.
+    // A fault is answered exactly where a stream's count rose, and no count falls.
     ensures read_fault { result ≡ status.ReadFault
         → Rose (I.faults image.old) (I.faults image.new) ⊎ Rose (S.faults input.old) (S.faults input.new) }
     ensures image_read_later { I.faults image.old ≤ I.faults image.new }
     ensures read_later { S.faults input.old ≤ S.faults input.new }
+    ensures image_read_kept { result ≢ status.ReadFault → I.faults image.new ≡ I.faults image.old }
+    ensures read_kept { result ≢ status.ReadFault → S.faults input.new ≡ S.faults input.old }
     ensures write_fault { result ≡ status.WriteFault
         → Rose (J.faults image_out.old) (J.faults image_out.new) ⊎ Rose (O.faults out.old) (O.faults out.new) }
     ensures image_write_later { J.faults image_out.old ≤ J.faults image_out.new }
     ensures write_later { O.faults out.old ≤ O.faults out.new }
+    ensures image_write_kept { result ≢ status.WriteFault → J.faults image_out.new ≡ J.faults image_out.old }
+    ensures write_kept { result ≢ status.WriteFault → O.faults out.new ≡ O.faults out.old }
+
+    // What was written was flushed: the image, and the text of a script.
+    ensures image_flushed { WhenWritten result (J.flushed image_out.new ≡ true) }
+    ensures flushed { WhenScript (job_of (map string_bytes words.now)) (WhenWritten result (O.flushed out.new ≡ true)) }
 
     // The outputs are touched only where the image and the text are written, and only a script reads and prints.
     ensures image_unwritten { UnlessWritten result (image_out.new ≡ image_out.old) }
@@ -238,9 +266,9 @@ pub fn run<I: Source, S: Source, J: Sink, O: Sink>(
     match read_job(alloc, words) {
         Err(WordsError::Usage) => Status::Usage,
         Err(WordsError::NoMemory) => Status::NoMemory,
-        Ok(Job::Format { segments }) => run_format(alloc, segments, image_out),
+        Ok(Job::Format { segments }) => format_and_write(alloc, segments, image_out),
         Ok(Job::Script { cut, keep }) => {
-            run_script(alloc, cut, keep, image, input, image_out, out)
+            read_and_play(alloc, cut, keep, image, input, image_out, out)
         }
     }
 }

@@ -5,11 +5,11 @@ use Rattle.session_serve.proofs.leaving.play_core.Goals as goal
 
 pub returns : goal.returns
 returns g c = λ words accepted opened.
-    leaves words (g.M.Memory.device c.run_core.new.core.memory) c.args.core.now c.run_core.new.core
+    leaves words (g.M.Memory.device c.play_script.new.core.memory) c.args.core.now c.play_script.new.core
     (record {
       accepted = accepted;
       opened = opened;
-      same = c.run_core.ensures.opened;
+      same = c.play_script.ensures.opened;
       known = record {
         legal = c.history.ensures.legal;
         legal_due = c.history.ensures.legal_due;

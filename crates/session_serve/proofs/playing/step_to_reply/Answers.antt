@@ -1,6 +1,6 @@
 use Rattle.std.proofs.Common.{◌≡◌, ◌≢◌, ◌∙◌, Some, ap, sym, refl}
 use Rattle.session_serve.proofs.Events.{both_ways, cut_now, in_call-begin, still_before}
-use Rattle.session_serve.proofs.playing.run_call.Goals as goal
+use Rattle.session_serve.proofs.playing.step_to_reply.Goals as goal
 
 pub loop-cut-init : goal.loop-cut-init
 loop-cut-init g c = record {

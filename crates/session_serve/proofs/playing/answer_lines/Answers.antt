@@ -8,10 +8,10 @@ use Rattle.session_serve.specs.declared.playing.Ending.{Ending}
 use Rattle.session_serve.specs.declared.playing.Ending.TheVariants as ending
 use Rattle.session_serve.specs.Playing.{EndsCall, HasRun, StopsInLine}
 use Rattle.session_serve.proofs.Lines.{line-cut, line-more, none_or, not_nil, split-at}
-use Rattle.session_serve.proofs.playing.run_lines.Goals as goal
+use Rattle.session_serve.proofs.playing.answer_lines.Goals as goal
 
-pub returns-in_err-run_line-clause-opened : goal.returns-in_err-run_line-clause-opened
-returns-in_err-run_line-clause-opened g c = c.run_line.ensures.opened ∙ c.loop-line.invariant.opened
+pub returns-in_err-answer_line-clause-opened : goal.returns-in_err-answer_line-clause-opened
+returns-in_err-answer_line-clause-opened g c = c.answer_line.ensures.opened ∙ c.loop-line.invariant.opened
 
 pub loop-line-preserved : goal.loop-line-preserved
 loop-line-preserved g c =
@@ -19,15 +19,15 @@ loop-line-preserved g c =
     let all = YieldsList-from_vec c.args.lines.items gives.0 (omega (arith, gives.1, ap length gives.0)) in
     let turn = YieldsList-turn all c.loop-line.yielded c.loop-line.line-iterator c.loop-line.yielded_by _ c.next.new.self c.in-Some.line c.in-Some.is c.next.ensures.steps in
     let built : IsBuiltLine c.in-Some.line = subst IsBuiltLine (sym turn.1) (c.requires.built (length c.loop-line.yielded) c.in-Some.line turn.0) in
-    let ends : EndsCall ending.Finished c.args.cut c.run_line.new.core = subst (λ (end : Ending). EndsCall end c.args.cut c.run_line.new.core) c.in-Finished.is c.in_ok-run_line.ensures.ends in
+    let ends : EndsCall ending.Finished c.args.cut c.answer_line.new.core = subst (λ (end : Ending). EndsCall end c.args.cut c.answer_line.new.core) c.in-Finished.is c.in_ok-answer_line.ensures.ends in
     record {
-      opened = c.run_line.ensures.opened ∙ c.loop-line.invariant.opened;
-      run = line-more c.args.cut c.loop-line.yielded c.in-Some.line _ _ c.loop-line.invariant.run built c.run_line.ensures.opened c.in_ok-run_line.ensures.started c.in_ok-run_line.ensures.counted c.in_ok-run_line.ensures.in_call ends;
+      opened = c.answer_line.ensures.opened ∙ c.loop-line.invariant.opened;
+      run = line-more c.args.cut c.loop-line.yielded c.in-Some.line _ _ c.loop-line.invariant.run built c.answer_line.ensures.opened c.in_ok-answer_line.ensures.started c.in_ok-answer_line.ensures.counted c.in_ok-answer_line.ensures.in_call ends;
       before = λ some. ends.3;
     }
 
 pub returns-in-Cut-clause-opened : goal.returns-in-Cut-clause-opened
-returns-in-Cut-clause-opened g c = c.run_line.ensures.opened ∙ c.loop-line.invariant.opened
+returns-in-Cut-clause-opened g c = c.answer_line.ensures.opened ∙ c.loop-line.invariant.opened
 
 pub returns-in-Cut-clause-ends : goal.returns-in-Cut-clause-ends
 returns-in-Cut-clause-ends g c =
@@ -36,10 +36,10 @@ returns-in-Cut-clause-ends g c =
     let so_far = YieldsList-so_far all c.loop-line.yielded c.loop-line.line-iterator c.loop-line.yielded_by in
     let turn = YieldsList-turn all c.loop-line.yielded c.loop-line.line-iterator c.loop-line.yielded_by _ c.next.new.self c.in-Some.line c.in-Some.is c.next.ensures.steps in
     let built : IsBuiltLine c.in-Some.line = subst IsBuiltLine (sym turn.1) (c.requires.built (length c.loop-line.yielded) c.in-Some.line turn.0) in
-    let ends : EndsCall ending.Cut c.args.cut c.run_line.new.core = subst (λ (end : Ending). EndsCall end c.args.cut c.run_line.new.core) c.in-Cut.is c.in_ok-run_line.ensures.ends in
+    let ends : EndsCall ending.Cut c.args.cut c.answer_line.new.core = subst (λ (end : Ending). EndsCall end c.args.cut c.answer_line.new.core) c.in-Cut.is c.in_ok-answer_line.ensures.ends in
     let split : c.args.lines.items ≡ c.loop-line.yielded ++ c.in-Some.line ∷ drop (length c.loop-line.yielded + 1) c.args.lines.items = split-at c.loop-line.yielded c.args.lines.items c.in-Some.line so_far turn.0 turn.1 in
-    let stops = line-cut c.args.cut c.loop-line.yielded (drop (length c.loop-line.yielded + 1) c.args.lines.items) c.in-Some.line _ _ c.loop-line.invariant.run built c.run_line.ensures.opened c.in_ok-run_line.ensures.counted c.in_ok-run_line.ensures.in_call (c.loop-line.invariant.before (not_nil c.loop-line.yielded c.args.lines.items turn.0)) ends in
-    (c.run_line.new.core.played, ends.1, inr (subst (λ (lines : List Line). StopsInLine c.run_line.new.core.played lines c.run_line.new.core) (sym split) stops))
+    let stops = line-cut c.args.cut c.loop-line.yielded (drop (length c.loop-line.yielded + 1) c.args.lines.items) c.in-Some.line _ _ c.loop-line.invariant.run built c.answer_line.ensures.opened c.in_ok-answer_line.ensures.counted c.in_ok-answer_line.ensures.in_call (c.loop-line.invariant.before (not_nil c.loop-line.yielded c.args.lines.items turn.0)) ends in
+    (c.answer_line.new.core.played, ends.1, inr (subst (λ (lines : List Line). StopsInLine c.answer_line.new.core.played lines c.answer_line.new.core) (sym split) stops))
 
 pub returns-clause-ends : goal.returns-clause-ends
 returns-clause-ends g c =

@@ -3,7 +3,7 @@ use Rattle.mv_model.specs.declared.call.Call.{Call}
 use Rattle.engine_core.specs.CoreState.{Unplaced}
 use Rattle.engine_core.specs.LogicalState.{logical_state}
 use Rattle.session_serve.specs.Playing.{IsBefore, IsCounted, IsInCall}
-use Rattle.session_serve.proofs.playing.run_call.Given as goal
+use Rattle.session_serve.proofs.playing.step_to_reply.Given as goal
 
 abbrev pub invariant-loop-cut : goal.invariant-loop-cut
 invariant-loop-cut g l = record {

@@ -1,6 +1,6 @@
 use Rattle.std.proofs.Common.{◌≡◌, ◌≢◌, []}
 use Rattle.session_serve.specs.Playing.{HasRun, IsBefore}
-use Rattle.session_serve.proofs.playing.run_lines.Given as goal
+use Rattle.session_serve.proofs.playing.answer_lines.Given as goal
 
 abbrev pub invariant-loop-line : goal.invariant-loop-line
 invariant-loop-line g l = record {
