@@ -1,4 +1,4 @@
-//! A run that a number stands for: its script, and the order in which its sessions go on.
+//! A run that a number stands for: its script, the order in which its sessions go on, and its summary.
 #![tactic(auto)]
 
 mod calls;
@@ -7,7 +7,9 @@ mod draws;
 pub mod laws;
 mod schedule;
 mod script;
+mod summary;
 mod table;
 
 pub use schedule::{Move, Standing, move_at, pick};
 pub use script::script_of;
+pub use summary::{Counted, Summary, count_replies, summary_text};
