@@ -1,6 +1,7 @@
 -- Decisions as the functions that make them give them.
 use Rattle.std.proofs.Common.{◌≡◌, ℕ, ℤ, ◌+◌, ◌<◌, ◌≤◌, ◌∙◌, false, List, [], ◌∷◌, get_or, slice_get, None, Some, refl, ap, sym, subst, arith}
 use Rattle.std.specs.Prelude.{Result, Ok, Err, IfOk, IsTrue, nat_eq}
+use Rattle.std.specs.Result.{OnErr}
 use Rattle.std.specs.Cmp.Lexicographic.{pointwise}
 use Rattle.std.proofs.lemmas.Slice.Eq.{slice_eq-Decides}
 use Rattle.std.proofs.lemmas.Bool.Decides.{Decides-eqb}
@@ -12,19 +13,21 @@ use Rattle.mv_model.specs.declared.call.Call.TheVariants as call
 use Rattle.mv_model.specs.declared.reply.Reply.{Reply}
 use Rattle.mv_model.specs.declared.reply.Reply.TheVariants as reply
 use Rattle.mv_model.specs.declared.limits.TheConstants.{MAX_COMMITS}
+use Rattle.mv_model.specs.State.{State}
+use Rattle.mv_model.specs.Answer.{answer}
 use Rattle.mv_model.specs.History.{IsAllowed}
 use Rattle.mv_model.proofs.Unchanged.{refusals_change_nothing_lem}
 use Rattle.image_layout.specs.Fixed.{last_at}
 use Rattle.engine_core.specs.Stage.{high_at}
 use Rattle.engine_core.specs.StageRules.{IsStage}
 use Rattle.engine_core.specs.Served.{insert_of, is_served, table_name}
-use Rattle.engine_core.specs.Decided.{IsDecided, IsDecision, IsClosed, IsPlacedLate, left_of}
+use Rattle.engine_core.specs.Decided.{IsDecided, IsDecision, IsClosed, IsPlacedLate, TakesMemory, left_of}
 use Rattle.engine_core.specs.LogicalState.{commits_in, is_seen, rows_from, state_of, within}
 use Rattle.engine_core.specs.declared.decision.Decision.{Decision}
 use Rattle.engine_core.specs.declared.transactions.Transactions.{Transactions}
 use Rattle.engine_core.specs.declared.transactions.Running.{Running}
 use Rattle.engine_core.proofs.Rows.{length-commits_in, length-rows_from}
-use Rattle.engine_core.proofs.States.{commit-spent}
+use Rattle.engine_core.proofs.States.{commit-answer, commit-spent}
 use Rattle.engine_core.proofs.Decisions.{refused}
 use Rattle.engine_core.proofs.Commits.{close-decided}
 use Rattle.engine_core.proofs.Survivals.{close-survives, stands-survives}
@@ -33,17 +36,44 @@ use Rattle.engine_core.proofs.Survivals.{close-survives, stands-survives}
 abbrev pub standing : Reply → Transactions → Decision
 standing given now = record { reply = given; copy = given; plan = None; after = now; late = None }
 
-pub stands : {E : Type 0} (words : List ℕ) (now : Transactions) (said : Call) (given : Reply) (made : Result Decision E) → IfOk made (λ decision. decision ≡ standing given now)
-    → IsDecided words now said given [] now → IsPlacedLate words None said given [] → IfOk made (λ decision. IsDecision words now said decision)
-stands words now said given (Ok decision) is decided late =
+pub stands : (words : List ℕ) (now : Transactions) (said : Call) (given : Reply) (made : Decision) → made ≡ standing given now
+    → IsDecided words now said given [] now → IsPlacedLate words None said given [] → IsDecision words now said made
+stands words now said given made is decided late =
     subst (λ (d : Decision). IsDecision words now said d) (sym is) (record { copied = refl; decided = decided; late = late; timed = tt; survives = stands-survives words now decided.stage })
-stands words now said given (Err error) is decided late = tt
+
+-- what holds anyhow holds where there is an error
+pub anyhow : {T E P : Type 0} (made : Result T E) → P → OnErr made P
+anyhow (Ok value) holds = tt
+anyhow (Err error) holds = holds
+
+-- a begin takes memory where no transaction is open
+pub begin-takes : (words : List ℕ) (begun : ℕ) (said : Call) → said ≡ call.Begin
+    → TakesMemory (state_of words (record { begun = begun; running = None })) (answer (state_of words (record { begun = begun; running = None })) 1 said)
+begin-takes words begun said is =
+    subst (λ (one : Call). TakesMemory (state_of words (record { begun = begun; running = None })) (answer (state_of words (record { begun = begun; running = None })) 1 one)) (sym is) refl
+
+-- and so does a commit that wrote nothing, or for which there is a number
+pub close-takes : (words : List ℕ) (begun : ℕ) (own : Running) → own.rows ≡ 0
+    → TakesMemory (state_of words (record { begun = begun; running = Some own })) (answer (state_of words (record { begun = begun; running = Some own })) 1 call.Commit)
+close-takes words begun own none =
+    let now : state_of words (record { begun = begun; running = Some own }) ≡ state_of words (record { begun = begun; running = Some (record { number = own.number; rows = 0 }) }) =
+    ap (λ (r : ℕ). state_of words (record { begun = begun; running = Some (record { number = own.number; rows = r }) })) none in
+    subst (λ (s : State). TakesMemory s (answer s 1 call.Commit)) (sym now) refl
+
+pub commit-takes : (words : List ℕ) (begun : ℕ) (own : Running) → 0 < own.rows → get_or words last_at 0 < MAX_COMMITS
+    → TakesMemory (state_of words (record { begun = begun; running = Some own })) (answer (state_of words (record { begun = begun; running = Some own })) 1 call.Commit)
+commit-takes words begun own some few =
+    let count = length-rows_from words (get_or words high_at 0) own.rows in
+    let commits = length-commits_in words (get_or words last_at 0) in
+    subst (λ (given : Reply). TakesMemory (state_of words (record { begun = begun; running = Some own })) given)
+    (sym (commit-answer (get_or words high_at 0 + own.rows) (commits_in words (get_or words last_at 0)) begun own.number (get_or words last_at 0) (rows_from words (get_or words high_at 0) own.rows)
+    (omega (arith, count, some)) (omega (arith, commits, few)))) refl
 
 -- no transaction is open
 pub no_txn : (words : List ℕ) (begun : ℕ) (said : Call) → IsStage words None → IsTrue (is_served said) → (said ≡ call.Begin → ⊥) → IsDecided words (record { begun = begun; running = None }) said reply.NoTxn [] (record { begun = begun; running = None })
 no_txn words begun said stage served other =
     refused words (record { begun = begun; running = None }) said reply.NoTxn stage (allowed said served other)
-    (refusals_change_nothing_lem (state_of words (record { begun = begun; running = None })) 1 said reply.NoTxn refl) tt tt refl
+    (refusals_change_nothing_lem (state_of words (record { begun = begun; running = None })) 1 said reply.NoTxn refl) tt tt refl tt
   where
     allowed : (said : Call) → IsTrue (is_served said) → (said ≡ call.Begin → ⊥) → IsAllowed (state_of words (record { begun = begun; running = None })) 1 said reply.NoTxn
     allowed call.Begin served other = absurd (other refl)
@@ -63,7 +93,7 @@ no_txn words begun said stage served other =
 pub already : (words : List ℕ) (begun : ℕ) (own : Running) (said : Call) → IsStage words (Some own) → said ≡ call.Begin → IsDecided words (record { begun = begun; running = Some own }) said reply.AlreadyOpen [] (record { begun = begun; running = Some own })
 already words begun own said stage is =
     subst (λ (one : Call). IsDecided words (record { begun = begun; running = Some own }) one reply.AlreadyOpen [] (record { begun = begun; running = Some own })) (sym is)
-    (refused words (record { begun = begun; running = Some own }) call.Begin reply.AlreadyOpen stage refl refl tt tt refl)
+    (refused words (record { begun = begun; running = Some own }) call.Begin reply.AlreadyOpen stage refl refl tt tt refl tt)
 
 -- a row past the table's is not seen
 pub unseen-past : (words : List ℕ) (own : Running) (row : ℕ) → IsStage words (Some own) → 4096 ≤ row → is_seen words own.rows row ≡ false
@@ -81,7 +111,7 @@ spent words begun own stage some many =
     let commits = length-commits_in words (get_or words last_at 0) in
     refused words (record { begun = begun; running = Some own }) call.Commit reply.Spent stage
     (sym (commit-spent (get_or words high_at 0 + own.rows) (commits_in words (get_or words last_at 0)) begun own.number (get_or words last_at 0) (rows_from words (get_or words high_at 0) own.rows)
-    (omega (arith, count, some)) (omega (arith, commits, many)))) refl tt tt refl
+    (omega (arith, count, some)) (omega (arith, commits, many)))) refl tt tt refl tt
 
 -- the end of a transaction that wrote nothing
 pub closes : {E : Type 0} (words : List ℕ) (begun : ℕ) (own : Running) (made : Result Decision E) → IsStage words (Some own) → own.rows ≡ 0 → IfOk made (λ decision. IsClosed begun decision)

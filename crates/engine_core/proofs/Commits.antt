@@ -270,6 +270,7 @@ module _ (words : List ℕ) (begun number rows high last : ℕ) (stage : IsStage
             ∙ ap (λ (new : List ℕ). state_of new (record { begun = begun; running = None })) (sym after);
         stage = rw after commit-stage;
         full = tt;
+        memory = tt;
         below = tt;
         planned = is_actions ∙ ap (λ (n : ℕ). plan_of (commit_parts n rows commit)) first_is
             ∙ ap (λ (n : ℕ). plan_of (commit_parts (get_or words high_at 0 + rows - n) n commit)) (sym (length-rows_from words (get_or words high_at 0) rows));
@@ -323,6 +324,7 @@ close-decided words begun number rows stage actions none is_actions short =
           (commits_in-same last words (words_after (one_store (state_at 0) 0) words) (switch-same words 0)))
           ∙ ap (λ (xs : List ℕ). state_of xs (record { begun = begun; running = None })) (sym after);
       full = tt;
+      memory = tt;
       below = tt;
       planned = is_actions;
       stage = rw after (switch-stage words 0 (Some (record { number = number; rows = rows })) None stage none refl refl);

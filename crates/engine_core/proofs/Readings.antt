@@ -7,13 +7,14 @@ use Rattle.std.proofs.lemmas.List.{take_all}
 use Rattle.mv_model.specs.State.{CreatedRow, WriteSet}
 use Rattle.mv_model.specs.View.{created_rows, ended_rows, is_key_of}
 use Rattle.mv_model.specs.declared.value.Value.TheVariants.{Int}
+use Rattle.mv_model.specs.declared.reply.Reply.{Reply}
 use Rattle.mv_model.specs.declared.reply.Reply.TheVariants as reply
 use Rattle.mv_model.specs.Answer.{answer}
 use Rattle.image_layout.specs.Fixed.{last_at}
 use Rattle.engine_core.specs.Stage.{high_at, born_at, ended_at, value_at}
 use Rattle.engine_core.specs.StageRules.{IsStage}
 use Rattle.engine_core.specs.Served.{get_of}
-use Rattle.engine_core.specs.Decided.{IsDecided}
+use Rattle.engine_core.specs.Decided.{IsDecided, TakesMemory}
 use Rattle.engine_core.specs.LogicalState.{commits_in, created_row, integer_of, is_seen, rows_from, state_of, within}
 use Rattle.engine_core.proofs.Rows.{created-found, ended-found, length-commits_in}
 use Rattle.engine_core.proofs.Decisions.{refused}
@@ -57,11 +58,19 @@ module _ (words : List ℕ) (begun number rows row : ℕ) where
       (record { begun = begun; running = Some (record { number = number; rows = rows }) })
   get-seen stage seen =
       refused words (record { begun = begun; running = Some (record { number = number; rows = rows }) }) (get_of row) (reply.Values (Int (integer_of (get_or words (value_at row) 0)) ∷ [])) stage
-      (sym (get-due ∙ ap (λ (b : Bool). cond b (reply.Values (Int (integer_of (get_or words (value_at row) 0)) ∷ [])) reply.NoRow) seen)) refl tt tt refl
+      (sym (get-due ∙ ap (λ (b : Bool). cond b (reply.Values (Int (integer_of (get_or words (value_at row) 0)) ∷ [])) reply.NoRow) seen)) refl tt tt refl tt
 
   pub get-unseen : IsStage words (Some (record { number = number; rows = rows })) → is_seen words rows row ≡ false
       → IsDecided words (record { begun = begun; running = Some (record { number = number; rows = rows }) }) (get_of row) reply.NoRow []
       (record { begun = begun; running = Some (record { number = number; rows = rows }) })
   get-unseen stage unseen =
       refused words (record { begun = begun; running = Some (record { number = number; rows = rows }) }) (get_of row) reply.NoRow stage
-      (sym (get-due ∙ ap (λ (b : Bool). cond b (reply.Values (Int (integer_of (get_or words (value_at row) 0)) ∷ [])) reply.NoRow) unseen)) refl tt tt refl
+      (sym (get-due ∙ ap (λ (b : Bool). cond b (reply.Values (Int (integer_of (get_or words (value_at row) 0)) ∷ [])) reply.NoRow) unseen)) refl tt tt refl tt
+
+  -- the reading of a row that is seen takes memory
+  pub get-takes : is_seen words rows row ≡ true
+      → TakesMemory (state_of words (record { begun = begun; running = Some (record { number = number; rows = rows }) }))
+      (answer (state_of words (record { begun = begun; running = Some (record { number = number; rows = rows }) })) 1 (get_of row))
+  get-takes seen =
+      subst (λ (given : Reply). TakesMemory (state_of words (record { begun = begun; running = Some (record { number = number; rows = rows }) })) given)
+      (sym (get-due ∙ ap (λ (b : Bool). cond b (reply.Values (Int (integer_of (get_or words (value_at row) 0)) ∷ [])) reply.NoRow) seen)) refl

@@ -1,5 +1,5 @@
 -- What a decision has to meet.
-use Rattle.std.specs.Prelude.{◌≡◌, ◌⊎◌, ℕ, ◌+◌, ◌<◌, ◌≤◌, List, [], length, slice_index, Option, Some, None}
+use Rattle.std.specs.Prelude.{◌≡◌, ◌⊎◌, ℕ, false, ◌+◌, ◌<◌, ◌≤◌, List, [], length, slice_index, Option, Some, None}
 use Rattle.mv_model.specs.declared.call.Call.{Call}
 use Rattle.mv_model.specs.declared.reply.Reply.{Reply}
 use Rattle.mv_model.specs.declared.call.Call.TheVariants as call
@@ -7,6 +7,8 @@ use Rattle.mv_model.specs.declared.reply.Reply.TheVariants as reply
 use Rattle.mv_model.specs.State.{State}
 use Rattle.mv_model.specs.View.{next_row_of}
 use Rattle.mv_model.specs.History.{IsAllowed}
+use Rattle.mv_model.specs.Answer.{answer}
+use Rattle.mv_model.specs.Laws.{is_refusal}
 use Rattle.mv_model.specs.Next.{next}
 use Rattle.pm_model.specs.declared.action.Action.{Action}
 use Rattle.pm_model.specs.PlanState.{PlanState}
@@ -34,6 +36,16 @@ IsFullWhere state (reply.Row row) = (row < 4096) × (rows_created state < 60)
 IsFullWhere state (reply.DictFull column) = ⊥
 IsFullWhere state other = Unit {0}
 
+-- The call takes memory where this reply is due: the reply is no refusal, and a row has room.
+abbrev pub TakesMemory : State → Reply → Type 0
+TakesMemory state (reply.Row row) = (row < 4096) × (rows_created state < 60)
+TakesMemory state due = is_refusal due ≡ false
+
+-- Memory is refused only to a call that takes some.
+abbrev pub IsRefusedWhere : State → Call → Reply → Type 0
+IsRefusedWhere state said reply.NoMemory = TakesMemory state (answer state 1 said)
+IsRefusedWhere state said other = Unit {0}
+
 -- a row that is given has a number below this one
 abbrev pub IsRowBelow : ℕ → Reply → Type 0
 IsRowBelow count (reply.Row row) = row < count
@@ -49,6 +61,7 @@ pub record IsDecided (words : List ℕ) (before : Transactions) (said : Call) (g
   pub state : next (state_of words before) 1 said given ≡ state_of (words_after actions words) after
   pub stage : IsStage (words_after actions words) after.running
   pub full : IsFullWhere (state_of words before) given
+  pub memory : IsRefusedWhere (state_of words before) said given
   pub below : IsRowBelow (next_row_of (state_of (words_after actions words) after) 0) given
   pub planned : actions ≡ plan_due (state_of words before) said given
   pub short : length actions ≤ 400

@@ -1,9 +1,10 @@
 // What each call comes to at its decision: its reply, the actions to play, and the transactions afterwards.
-ghost use Rattle.std.specs.Prelude.{◌≡◌, ◌-◌, ◌^◌, ◌<◌, ◌≤◌, Some, None, [], ◌∷◌, IfOk, IsTrue, length};
+ghost use Rattle.std.specs.Prelude.{◌≡◌, ◌-◌, ◌^◌, ◌<◌, ◌≤◌, Some, None, [], ◌∷◌, IfOk, IsTrue, OnErr, length};
 ghost use Rattle.mv_model.specs.declared.call.Call.TheVariants as call;
 ghost use Rattle.mv_model.specs.declared.value.Value.TheVariants.{Int};
-ghost use Rattle.engine_core.specs.Decided.{IsClosed, IsDecision};
-ghost use Rattle.engine_core.specs.LogicalState.{is_seen as sees, within};
+ghost use Rattle.engine_core.specs.Decided.{IsClosed, IsDecision, TakesMemory};
+ghost use Rattle.mv_model.specs.Answer.{answer};
+ghost use Rattle.engine_core.specs.LogicalState.{is_seen as sees, state_of, within};
 ghost use Rattle.engine_core.specs.Served.{get_of, insert_of, is_served};
 ghost use Rattle.engine_core.specs.StageRules.{IsStage};
 
@@ -35,7 +36,8 @@ pub(crate) struct Decision {
     pub late: Option<Late>,
 }
 
-/// Decides a call of session 1. Where memory is wanted and not there, the reply is that, and nothing changes.
+/// Decides a call of session 1. Where memory is wanted and not there, the reply is that, and nothing changes; a refusal
+/// takes no memory.
 pub(crate) fn decide<M: Memory>(
     alloc: Global,
     memory: &M,
@@ -68,7 +70,8 @@ fn settle<M: Memory>(
     requires stage { IsStage (M.device memory.now).cached now.running }
     requires served { IsTrue (is_served said.now) }
     requires begun { now.begun < 2 ^ 64 - 1 }
-    ensures { IfOk result (λ decision. IsDecision (M.device memory.now).cached now said.now decision) }
+    ensures decided { IfOk result (λ decision. IsDecision (M.device memory.now).cached now said.now decision) }
+    ensures memory { OnErr result (TakesMemory (state_of (M.device memory.now).cached now) (answer (state_of (M.device memory.now).cached now) 1 said.now)) }
 {
     match now.running {
         None => settle_outside(alloc, memory, now.begun, said),
@@ -86,17 +89,19 @@ fn settle_outside<M: Memory>(
     requires stage { IsStage (M.device memory.now).cached None }
     requires served { IsTrue (is_served said.now) }
     requires begun { begun < 2 ^ 64 - 1 }
-    ensures { IfOk result (λ decision. IsDecision (M.device memory.now).cached (record { begun = begun; running = None }) said.now decision) }
+    ensures decided { IfOk result (λ decision. IsDecision (M.device memory.now).cached (record { begun = begun; running = None }) said.now decision) }
+    ensures memory { OnErr result (TakesMemory (state_of (M.device memory.now).cached (record { begun = begun; running = None })) (answer (state_of (M.device memory.now).cached (record { begun = begun; running = None })) 1 said.now)) }
 {
     match said {
         Call::Begin => begin(alloc, memory, begun),
-        _ => refuse(
+        _ => Ok(stand(
+            Reply::NoTxn,
             Reply::NoTxn,
             Transactions {
                 begun,
                 running: None,
             },
-        ),
+        )),
     }
 }
 
@@ -110,16 +115,18 @@ fn settle_inside<M: Memory>(
 ) -> Result<Decision, NoMemory>
     requires stage { IsStage (M.device memory.now).cached (Some own) }
     requires served { IsTrue (is_served said.now) }
-    ensures { IfOk result (λ decision. IsDecision (M.device memory.now).cached (record { begun = begun; running = Some own }) said.now decision) }
+    ensures decided { IfOk result (λ decision. IsDecision (M.device memory.now).cached (record { begun = begun; running = Some own }) said.now decision) }
+    ensures memory { OnErr result (TakesMemory (state_of (M.device memory.now).cached (record { begun = begun; running = Some own })) (answer (state_of (M.device memory.now).cached (record { begun = begun; running = Some own })) 1 said.now)) }
 {
     match said {
-        Call::Begin => refuse(
+        Call::Begin => Ok(stand(
+            Reply::AlreadyOpen,
             Reply::AlreadyOpen,
             Transactions {
                 begun,
                 running: Some(own),
             },
-        ),
+        )),
         Call::Commit => commit(alloc, memory, begun, own),
         Call::Get { row, .. } => get(alloc, memory, begun, own, *row),
         Call::Insert { values, .. } => match values.get(0) {
@@ -130,17 +137,17 @@ fn settle_inside<M: Memory>(
     }
 }
 
-// A reply that leaves all as it is.
-fn refuse(reply: Reply, now: Transactions) -> Result<Decision, NoMemory>
-    ensures { IfOk result (λ decision. decision ≡ record { reply = reply; copy = reply; plan = None; after = now; late = None }) }
+// A reply that leaves all as it is, and takes no memory.
+fn stand(reply: Reply, copy: Reply, now: Transactions) -> Decision
+    ensures { result ≡ record { reply = reply; copy = copy; plan = None; after = now; late = None } }
 {
-    Ok(Decision {
-        copy: reply.copy()?,
+    Decision {
         reply,
+        copy,
         plan: None,
         after: now,
         late: None,
-    })
+    }
 }
 
 fn begin<M: Memory>(alloc: Global, memory: &M, begun: u64) -> Result<Decision, NoMemory>
@@ -149,14 +156,18 @@ fn begin<M: Memory>(alloc: Global, memory: &M, begun: u64) -> Result<Decision, N
     ensures { IfOk result (λ decision. IsDecision (M.device memory.now).cached (record { begun = begun; running = None }) call.Begin decision) }
 {
     let number = begun + 1;
-    let reply = Reply::Began {
-        txn: number,
-        snapshot: memory.load(last_commit()),
-    };
+    let snapshot = memory.load(last_commit());
+    let plan = plan_begin(alloc, 1)?;
     Ok(Decision {
-        copy: reply.copy()?,
-        reply,
-        plan: Some(plan_begin(alloc, 1)?),
+        reply: Reply::Began {
+            txn: number,
+            snapshot,
+        },
+        copy: Reply::Began {
+            txn: number,
+            snapshot,
+        },
+        plan: Some(plan),
         after: Transactions {
             begun: number,
             running: Some(Running { number, rows: 0 }),
@@ -173,26 +184,32 @@ fn insert<M: Memory>(
     number: i64,
 ) -> Result<Decision, NoMemory>
     requires { IsStage (M.device memory.now).cached (Some own) }
-    ensures { IfOk result (λ decision. IsDecision (M.device memory.now).cached (record { begun = begun; running = Some own }) (insert_of number) decision) }
+    ensures decided { IfOk result (λ decision. IsDecision (M.device memory.now).cached (record { begun = begun; running = Some own }) (insert_of number) decision) }
+    ensures memory { OnErr result (TakesMemory (state_of (M.device memory.now).cached (record { begun = begun; running = Some own })) (answer (state_of (M.device memory.now).cached (record { begun = begun; running = Some own })) 1 (insert_of number))) }
 {
     let row = memory.load(high()) as u32 + own.rows;
     if own.rows >= u32::from(OBJECT_ENTRIES) || row >= STAGE_ROWS {
-        return refuse(
+        let now = Transactions {
+            begun,
+            running: Some(own),
+        };
+        return Ok(stand(
             Reply::Full {
                 need: 1,
                 largest: 0,
             },
-            Transactions {
-                begun,
-                running: Some(own),
+            Reply::Full {
+                need: 1,
+                largest: 0,
             },
-        );
+            now,
+        ));
     }
-    let reply = Reply::Row { row };
+    let plan = plan_insert(alloc, own.rows, row, key_word(number))?;
     Ok(Decision {
-        copy: reply.copy()?,
-        reply,
-        plan: Some(plan_insert(alloc, own.rows, row, key_word(number))?),
+        reply: Reply::Row { row },
+        copy: Reply::Row { row },
+        plan: Some(plan),
         after: Transactions {
             begun,
             running: Some(Running {
@@ -212,17 +229,19 @@ fn get<M: Memory>(
     row: u32,
 ) -> Result<Decision, NoMemory>
     requires { IsStage (M.device memory.now).cached (Some own) }
-    ensures { IfOk result (λ decision. IsDecision (M.device memory.now).cached (record { begun = begun; running = Some own }) (get_of row) decision) }
+    ensures decided { IfOk result (λ decision. IsDecision (M.device memory.now).cached (record { begun = begun; running = Some own }) (get_of row) decision) }
+    ensures memory { OnErr result (TakesMemory (state_of (M.device memory.now).cached (record { begun = begun; running = Some own })) (answer (state_of (M.device memory.now).cached (record { begun = begun; running = Some own })) 1 (get_of row))) }
 {
     let now = Transactions {
         begun,
         running: Some(own),
     };
     if row >= STAGE_ROWS || !is_seen(memory, own.rows, row) {
-        return refuse(Reply::NoRow, now);
+        return Ok(stand(Reply::NoRow, Reply::NoRow, now));
     }
     let values = one_value(alloc, integer(memory.load(value(row))))?;
-    refuse(Reply::Values(values), now)
+    let copy = values.copy()?;
+    Ok(stand(Reply::Values(values), Reply::Values(copy), now))
 }
 
 fn one_value(alloc: Global, number: i64) -> Result<Values, NoMemory>
@@ -261,27 +280,25 @@ fn commit<M: Memory>(
     own: Running,
 ) -> Result<Decision, NoMemory>
     requires { IsStage (M.device memory.now).cached (Some own) }
-    ensures { IfOk result (λ decision. IsDecision (M.device memory.now).cached (record { begun = begun; running = Some own }) call.Commit decision) }
+    ensures decided { IfOk result (λ decision. IsDecision (M.device memory.now).cached (record { begun = begun; running = Some own }) call.Commit decision) }
+    ensures memory { OnErr result (TakesMemory (state_of (M.device memory.now).cached (record { begun = begun; running = Some own })) (answer (state_of (M.device memory.now).cached (record { begun = begun; running = Some own })) 1 call.Commit)) }
 {
     if own.rows == 0 {
         return close(alloc, begun);
     }
     let last = memory.load(last_commit());
     if last >= MAX_COMMITS {
-        return refuse(
-            Reply::Spent,
-            Transactions {
-                begun,
-                running: Some(own),
-            },
-        );
+        let now = Transactions {
+            begun,
+            running: Some(own),
+        };
+        return Ok(stand(Reply::Spent, Reply::Spent, now));
     }
     let first = memory.load(high()) as u32;
     let made = plan_commit(alloc, first, own.rows, last + 1)?;
-    let reply = Reply::Committed { number: last + 1 };
     Ok(Decision {
-        copy: reply.copy()?,
-        reply,
+        reply: Reply::Committed { number: last + 1 },
+        copy: Reply::Committed { number: last + 1 },
         plan: Some(made.plan),
         after: Transactions {
             begun,
@@ -298,11 +315,11 @@ fn commit<M: Memory>(
 fn close(alloc: Global, begun: u64) -> Result<Decision, NoMemory>
     ensures { IfOk result (λ decision. IsClosed begun decision) }
 {
-    let reply = Reply::ReadOnly;
+    let plan = plan_close(alloc)?;
     Ok(Decision {
-        copy: reply.copy()?,
-        reply,
-        plan: Some(plan_close(alloc)?),
+        reply: Reply::ReadOnly,
+        copy: Reply::ReadOnly,
+        plan: Some(plan),
         after: Transactions {
             begun,
             running: None,

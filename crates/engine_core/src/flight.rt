@@ -86,7 +86,7 @@ pub(crate) fn place_commit(flight: &mut Flight, history: &mut Vec<Entry>, left: 
         let number = *number;
         if *late == left {
             push_entry(history, Call::Commit, Reply::Committed { number });
-            *flight = Flight::Placed(Reply::Committed { number });
+            put_flight(flight, Flight::Placed(Reply::Committed { number }));
         }
     }
 }
@@ -105,10 +105,15 @@ pub(crate) fn enter(
     ensures capacity { vec_capacity history.new ≡ vec_capacity history.old }
 {
     match late {
-        Some(late) => Flight::Committing {
-            number: late.number,
-            late: late.left,
-        },
+        Some(late) => {
+            drop(said);
+            drop(reply);
+            drop(copy);
+            Flight::Committing {
+                number: late.number,
+                late: late.left,
+            }
+        }
         None => {
             push_entry(history, said, reply);
             Flight::Placed(copy)
@@ -130,7 +135,7 @@ pub(crate) fn mark_answered(history: &mut Vec<Entry>)
 pub(crate) fn put_flight(flight: &mut Flight, next: Flight)
     ensures { flight.new ≡ next }
 {
-    *flight = next;
+    drop(mem::replace(flight, next));
 }
 
 /// Whether no call is in flight.

@@ -11,8 +11,6 @@ mod rules;
 mod stage;
 mod stage_table;
 mod store_core;
-#[cfg(test)]
-mod tests;
 mod transactions;
 
 pub use flight::Step;

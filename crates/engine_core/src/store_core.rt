@@ -53,7 +53,6 @@ impl From<NoMemory> for OpenError {
 /// A device and the session that steps on it. The history since it was opened is legal from the state that the opened
 /// words stand for, and whatever image a power cut leaves of the device, now or after any action of the plan in play,
 /// fits together and recovers what it may.
-#[derive(Drop)]
 pub struct Core<M: Memory> {
     memory: M,
     opened: Vec<u64>,
@@ -81,6 +80,23 @@ impl<M: Memory> Model for Core<M> {
     ghost invariant = { λ c. IsKept (M.device c.memory) c.opened.items c.history.items c.transactions (left_of c.plan) c.flight c.events_left c.played c.started
         × (pending c.flight + vec_len c.history ≤ vec_capacity c.history)
         × (c.shape ≡ columns) };
+}
+
+impl<M: Memory + Drop> Drop for Core<M> {
+    fn drop(self) {
+        let Core {
+            memory: _,
+            opened: _,
+            history: _,
+            transactions: _,
+            plan: _,
+            flight: _,
+            events_left: _,
+            played: _,
+            started: _,
+            shape: _,
+        } = self;
+    }
 }
 
 impl<M: Memory + Drop> Core<M> {
@@ -138,7 +154,13 @@ impl<M: Memory> Core<M> {
         ensures started { IfOk result (λ _. self.new ≡ record self.old { in_flight = Unplaced said; events_left = 65536; started = self.old.started + 1 }) }
         ensures refused { IfErr result (λ _. self.new ≡ self.old) }
     {
-        self.history.reserve(1)?;
+        match self.history.reserve(1) {
+            Ok(()) => {}
+            Err(refused) => {
+                drop(said);
+                return Err(refused);
+            }
+        }
         put_flight(&mut self.flight, Flight::Waiting(said));
         self.events_left = MAX_EVENTS;
         self.started += 1;

@@ -13,5 +13,5 @@ invariant_of-self-2 g c =
     let d = g.M.Memory.device inside.memory in
     let free : in_flight_of inside.flight ≡ Nothing = rw (← c.self.view_is) at c.requires.free in
     let kept = subst (λ (f : Flight). IsKept d inside.opened.items inside.history.items inside.transactions (left_of inside.plan) f inside.events_left inside.played inside.started) (is_idle inside.flight free) c.self.invariant.0 in
-    rw (c.in_ok-reserve.ensures.items, c.put_flight.ensures)
-    (starts inside.opened.items d inside.history.items inside.transactions (left_of inside.plan) c.args.said inside.events_left inside.played inside.started c.requires.served kept, omega (arith, c.in_ok-reserve.ensures.ok), c.self.invariant.2)
+    rw (c.in-Ok.ensures.items, c.put_flight.ensures)
+    (starts inside.opened.items d inside.history.items inside.transactions (left_of inside.plan) c.args.said inside.events_left inside.played inside.started c.requires.served kept, omega (arith, c.in-Ok.ensures.ok), c.self.invariant.2)
