@@ -13,8 +13,8 @@ use Rattle.engine_core.specs.Opening.{opening_fault}
 use Rattle.script_text.specs.declared.script.Line.{Line}
 use Rattle.script_text.specs.declared.error.ScriptError.{ScriptError}
 use Rattle.script_text.specs.Reading.{script_of}
-use Rattle.session_serve.specs.declared.words.Job.{Job}
-use Rattle.session_serve.specs.declared.words.Job.TheVariants as job
+use Rattle.command_line.specs.declared.words.Job.{Job}
+use Rattle.command_line.specs.declared.words.Job.TheVariants as job
 use Rattle.session_serve.specs.declared.status.Status.{Status}
 use Rattle.session_serve.specs.declared.status.Status.TheVariants as status
 use Rattle.session_serve.specs.Runs.{AreWordsOf, EndsScript, Finishes, IsCutOff, IsDueOfFault, IsDueOfImage, IsDueOfInput, IsDueOfOpening, IsDueOfRun, IsDueOfScript, IsTooLong, Leaving, MayEnd, MayEndScript, RanScript, ReadsImage, ReadsScript, ReadsToEnd, Streams, Told, Whichever, WritesAll, WritesFront, Writing, streams}

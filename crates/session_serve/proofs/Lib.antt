@@ -1,4 +1,3 @@
-pub mod Commands
 pub mod Events
 pub mod Lines
 pub mod Endings

@@ -17,8 +17,8 @@ use Rattle.script_text.specs.declared.error.ScriptError.TheVariants as script_er
 use Rattle.script_text.specs.Printed.{history_text}
 use Rattle.script_text.specs.Reading.{script_of}
 use Rattle.session_serve.specs.Moments.{IsFinished, IsFirstAt, IsRun, IsUncut, Moment}
-use Rattle.session_serve.specs.declared.words.Job.{Job}
-use Rattle.session_serve.specs.declared.words.Job.TheVariants as job
+use Rattle.command_line.specs.declared.words.Job.{Job}
+use Rattle.command_line.specs.declared.words.Job.TheVariants as job
 use Rattle.session_serve.specs.declared.status.Status.{Status}
 use Rattle.session_serve.specs.declared.status.Status.TheVariants as status
 

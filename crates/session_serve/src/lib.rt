@@ -9,9 +9,8 @@ mod serving;
 mod status;
 #[cfg(test)]
 mod tests;
-mod words;
 
+pub use command_line::{Command, Job, Paths, WordsError, read_words};
 pub use laws::due_law;
 pub use serving::run;
 pub use status::{Status, status_text};
-pub use words::{Command, Job, Paths, WordsError, read_words};

@@ -6,15 +6,15 @@ ghost use Rattle.pm_image.specs.Spelling.{IsImage, spelling};
 ghost use Rattle.engine_core.specs.Opening.{opening_fault};
 ghost use Rattle.engine_core.specs.Stage.{stage_words};
 ghost use Rattle.script_text.specs.Script.{IsBuiltLine};
-ghost use Rattle.session_serve.specs.Words.{job_of};
+ghost use Rattle.command_line.specs.Words.{job_of};
 ghost use Rattle.session_serve.specs.Runs.{AppendsFront, AreWordsOf, Ends, EndsFormat, EndsScript, MayEnd, ReadsImage, ReadsScript, ReadsToEnd, TakesInput, UnlessScript, UnlessWritten, WhenScript, WhenWritten, streams};
 ghost use Rattle.session_serve.specs.Parts.{IsNoImage, IsNoScript, IsUnread, IsWritten, RanWords, Takes};
 ghost use Rattle.session_serve.specs.declared.status.Status.TheVariants as status;
 
 use crate::leaving::{Left, play};
 use crate::playing::Ending;
-use crate::words::read_job;
 use crate::{Job, Status, WordsError};
+use command_line::read_job;
 use engine_core::{OpenError, stage_fresh};
 use io_edge::{Failed, ReadAllError, Sink, Source, read_all, write_all};
 use pm_image::{ImageError, decode, encode};

@@ -1,6 +1,6 @@
 -- Which path a file of a command has.
 use Rattle.std.specs.Prelude.{ℕ, List, Option}
-use Rattle.session_serve.specs.declared.words.Paths.{Paths}
+use Rattle.command_line.specs.declared.words.Paths.{Paths}
 use Rattle.sofort_main.specs.declared.paths.Role.{Role}
 use Rattle.sofort_main.specs.declared.paths.Role.TheVariants as role
 
