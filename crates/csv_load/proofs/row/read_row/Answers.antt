@@ -5,7 +5,6 @@ use Rattle.csv_load.proofs.row.read_row.Goals as goal
 
 pub unwrap-field-requires : goal.unwrap-field-requires
 unwrap-field-requires c =
-    let same : length (fields_of c.args.fields.now) ≡ length c.args.columns.now = omega arith in
     field-found (λ (s : Bor (List ℕ)). s.now) c.get.result (fields_of c.args.fields.now) c.loop-i.i (omega arith) c.get.ensures.value
 
 pub returns-in-None : goal.returns-in-None
