@@ -3,3 +3,4 @@ pub mod Choices
 pub mod Bounds
 pub mod Moves
 pub mod Following
+pub mod Waits

@@ -1,5 +1,5 @@
 -- What holds of scripts and schedules, whatever the number.
-use Rattle.std.specs.Prelude.{ℕ, ◌≡◌, ◌+◌, ◌<◌, ◌≤◌, not, Bool, true, false, All, List, ◌∷◌, ◌++◌, length}
+use Rattle.std.specs.Prelude.{ℕ, ◌≡◌, ◌+◌, ◌<◌, ◌≤◌, not, Bool, true, false, All, List, [], ◌∷◌, ◌++◌, length, Some}
 use Rattle.mv_model.specs.declared.call.Call.{Call}
 use Rattle.mv_model.specs.declared.call.Call.TheVariants as call
 use Rattle.script_text.specs.declared.script.Line.{Line}
@@ -11,7 +11,7 @@ use Rattle.drill.specs.declared.schedule.Move.{Move}
 use Rattle.drill.specs.declared.schedule.Move.TheVariants.{Start, Step, Stuck, Over}
 use Rattle.drill.specs.Calls.{creation}
 use Rattle.drill.specs.Script.{is_open, script_of}
-use Rattle.drill.specs.Schedule.{is_done, move_at, standing_of}
+use Rattle.drill.specs.Schedule.{first_going, is_done, move_at, picked, standing_of}
 
 abbrev pub is_creation : Call → Bool
 is_creation (call.Create table columns) = true
@@ -29,9 +29,10 @@ IsStatement (line.Await session on nth) = ⊥
 -- a script is the creation of its table, and behind it exactly so many statements
 abbrev pub HasOneCreation : Type 0
 HasOneCreation = (number statements : ℕ) → (said : List Line)
-    × (script_of number statements ≡ line.Say 1 1 creation ∷ said) × (length said ≡ statements) × All IsStatement said
+    × (script_of number statements ≡ line.Say 1 1 creation ∷ said)
+    × (length said ≡ statements) × All IsStatement said
 
--- behind the earlier lines the line is its session's next, and a begin exactly where the session has no transaction open
+-- behind the earlier lines the line is its session's next, and a begin exactly where that has no transaction open
 abbrev pub Follows : List Line → Line → Type 0
 Follows earlier (line.Say session ordinal said) =
     (ordinal ≡ ordinal_after earlier session + 1) × (is_begin said ≡ not (is_open earlier session))
@@ -52,4 +53,36 @@ Fits sessions Over = (session : ℕ) → is_done (standing_of sessions session) 
 
 -- each move fits
 abbrev pub MovesFit : Type 0
-MovesFit = (number turn : ℕ) (sessions : List Standing) → length sessions ≡ 4 → Fits sessions (move_at number turn sessions)
+MovesFit = (number turn : ℕ) (sessions : List Standing) → length sessions ≡ 4
+    → Fits sessions (move_at number turn sessions)
+
+-- the session has a call in flight
+abbrev pub has_call : Standing → Bool
+has_call Running = true
+has_call (Blocked holder) = true
+has_call other = false
+
+-- The sessions do not wait in a circle: they have places in which each holder stands before whoever waits for it, and
+-- each holder has a call in flight.
+abbrev pub IsOrder : List Standing → (ℕ → ℕ) → Type 0
+IsOrder sessions place = (session holder : ℕ) → standing_of sessions session ≡ Blocked holder
+    → (has_call (standing_of sessions holder) ≡ true) × (place holder < place session)
+
+-- the session waits for the first of the holders, each of these for the next, and the last of all is this one
+abbrev pub WaitsFor : List Standing → ℕ → List ℕ → ℕ → Type 0
+WaitsFor sessions session [] last = session ≡ last
+WaitsFor sessions session (holder ∷ holders) last =
+    (standing_of sessions session ≡ Blocked holder) × WaitsFor sessions holder holders last
+
+-- the move is a step of the running session at the end of this session's holders
+abbrev pub StepsFor : List Standing → ℕ → Move → Type 0
+StepsFor sessions session (Step last) =
+    (holders : List ℕ) × WaitsFor sessions session holders last × (standing_of sessions last ≡ Running)
+StepsFor sessions session other = ⊥
+
+-- Where no sessions wait in a circle, the turn of a session with a call in flight is a step: that of the running
+-- session at the end of its holders.
+abbrev pub WaitsEnd : Type 0
+WaitsEnd = (number turn session : ℕ) (sessions : List Standing) (place : ℕ → ℕ)
+    → length sessions ≡ 4 → IsOrder sessions place → first_going sessions 4 (picked number turn) ≡ Some session
+    → has_call (standing_of sessions session) ≡ true → StepsFor sessions session (move_at number turn sessions)

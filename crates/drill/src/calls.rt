@@ -52,7 +52,8 @@ fn draw_values(alloc: Global, draws: &mut Draws) -> Result<Values, NoMemory>
 
 fn draw_insert(alloc: Global, draws: &mut Draws) -> Result<Call, NoMemory>
     requires fits { draws.old.next + 2 < 2 ^ 32 }
-    ensures drawn { IfOk result (λ call. record { call = call; next = draws.new.next } ≡ insert_drawn draws.old.number draws.old.next) }
+    ensures drawn { IfOk result (λ call.
+        record { call = call; next = draws.new.next } ≡ insert_drawn draws.old.number draws.old.next) }
     ensures same { OnOk result (draws.new.number ≡ draws.old.number) }
 {
     let values = draw_values(alloc, draws)?;
@@ -64,7 +65,8 @@ fn draw_insert(alloc: Global, draws: &mut Draws) -> Result<Call, NoMemory>
 
 fn draw_update(alloc: Global, draws: &mut Draws) -> Result<Call, NoMemory>
     requires fits { draws.old.next + 3 < 2 ^ 32 }
-    ensures drawn { IfOk result (λ call. record { call = call; next = draws.new.next } ≡ update_drawn draws.old.number draws.old.next) }
+    ensures drawn { IfOk result (λ call.
+        record { call = call; next = draws.new.next } ≡ update_drawn draws.old.number draws.old.next) }
     ensures same { OnOk result (draws.new.number ≡ draws.old.number) }
 {
     let row = draw_row(draws);
@@ -123,7 +125,8 @@ fn draw_scan(draws: &mut Draws) -> Call
 /// The statement of a choice, 0 to 15.
 fn draw_chosen(alloc: Global, choice: u64, draws: &mut Draws) -> Result<Call, NoMemory>
     requires fits { draws.old.next + 3 < 2 ^ 32 }
-    ensures drawn { IfOk result (λ call. record { call = call; next = draws.new.next } ≡ chosen draws.old.number choice draws.old.next) }
+    ensures drawn { IfOk result (λ call.
+        record { call = call; next = draws.new.next } ≡ chosen draws.old.number choice draws.old.next) }
     ensures same { OnOk result (draws.new.number ≡ draws.old.number) }
 {
     match choice {
@@ -153,7 +156,8 @@ pub(crate) fn draw_statement(
     draws: &mut Draws,
 ) -> Result<Call, NoMemory>
     requires fits { draws.old.next + 4 < 2 ^ 32 }
-    ensures drawn { IfOk result (λ call. record { call = call; next = draws.new.next } ≡ statement_drawn draws.old.number is_open draws.old.next) }
+    ensures drawn { IfOk result (λ call.
+        record { call = call; next = draws.new.next } ≡ statement_drawn draws.old.number is_open draws.old.next) }
     ensures same { OnOk result (draws.new.number ≡ draws.old.number) }
 {
     if !is_open {
