@@ -7,8 +7,6 @@ mod leaving;
 mod playing;
 mod serving;
 mod status;
-#[cfg(test)]
-mod tests;
 
 pub use command_line::{Command, Job, Paths, WordsError, read_words};
 pub use laws::due_law;
