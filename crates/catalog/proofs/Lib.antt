@@ -15,4 +15,3 @@ pub mod ReadBack
 pub mod Rebuilding
 pub mod ShownTables
 pub mod Surviving
-pub mod Tested

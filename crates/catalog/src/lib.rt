@@ -13,6 +13,3 @@ pub use laws::creation_law;
 pub use pm_model::NoMemory;
 pub use reading::rebuild;
 pub use tables::Catalog;
-
-#[cfg(test)]
-mod tests;

@@ -1,7 +1,7 @@
 use Rattle.std.proofs.Common.{◌∙◌, List, ℕ, get_or, ap, arith}
-use Rattle.catalog.proofs.Tested.{tested_may, tested_parts, tested_settled}
-use Rattle.catalog.proofs.tests.create.Goals as goal
-use Rattle.catalog.proofs.tests.create.Goals.{then-count-lt32+else-assert_eq-3, else-count-lt32}
+use Rattle.object_tests.proofs.Created.{tested_may, tested_parts, tested_settled}
+use Rattle.object_tests.proofs.tables.create.Goals as goal
+use Rattle.object_tests.proofs.tables.create.Goals.{then-count-lt32+else-assert_eq-3, else-count-lt32}
 
 pub plan_create-requires : goal.plan_create-requires
 plan_create-requires g c =
@@ -15,7 +15,7 @@ plan_create-requires g c =
     ])
 
 pub play_whole-requires-clause-planned : goal.play_whole-requires-clause-planned
-play_whole-requires-clause-planned g c = tested_parts (g.M.Memory.device c.args.memory.now) (g.met.M.Memory.whole c.args.memory.now) c.args.heap.now c.requires c.plan_create.new.heap c.args.name.now c.args.shape.now c.in_ok-plan.ensures.planned.0 c.in_ok-plan.plan.left c.in_ok-plan.ensures.planned.1
+play_whole-requires-clause-planned g c = tested_parts (g.M.Memory.device c.args.memory.now) (g.met.M.Memory.whole c.args.memory.now) c.args.heap.now c.requires c.plan_create.new.heap c.name-table.result c.one_column-shape.result c.in_ok-plan.ensures.planned.0 c.in_ok-plan.plan.left c.in_ok-plan.ensures.planned.1
 
 pub returns : goal.returns
-returns g c = tested_settled (g.M.Memory.device c.args.memory.now) (g.met.M.Memory.whole c.args.memory.now) c.args.heap.now c.requires c.plan_create.new.heap c.args.name.now c.args.shape.now c.in_ok-plan.ensures.planned.0 c.in_ok-plan.plan.left c.in_ok-plan.ensures.planned.1 (g.M.Memory.device c.play_whole.new.memory) c.play_whole.ensures.words c.play_whole.ensures.clean
+returns g c = tested_settled (g.M.Memory.device c.args.memory.now) (g.met.M.Memory.whole c.args.memory.now) c.args.heap.now c.requires c.plan_create.new.heap c.name-table.result c.one_column-shape.result c.in_ok-plan.ensures.planned.0 c.in_ok-plan.plan.left c.in_ok-plan.ensures.planned.1 (g.M.Memory.device c.play_whole.new.memory) c.play_whole.ensures.words c.play_whole.ensures.clean

@@ -1,6 +1,5 @@
--- What the tests carry from one creation to the next.
-use Rattle.std.proofs.Common.{◌≡◌, ℕ, ◌+◌, ◌<◌, ◌≤◌, List, length, get_or, refl, sym, ◌∙◌, ap, subst, arith}
-use Rattle.std.specs.Prelude.{Some, IsSome}
+-- What the tests of tables carry from one creation to the next.
+use Rattle.std.proofs.Common.{◌≡◌, ℕ, ◌+◌, ◌<◌, ◌≤◌, List, length, get_or, sym, ◌∙◌, ap, subst, arith}
 use Rattle.mv_model.specs.declared.shape.Column.{Column}
 use Rattle.pm_model.specs.declared.action.Action.{Action}
 use Rattle.pm_model.specs.Device.{Device, IsClean, IsWhole}
@@ -10,7 +9,7 @@ use Rattle.heap_palloc.specs.Calls.{IsSettled, KeepsHeapRules}
 use Rattle.heap_palloc.specs.Index.{HeapIndex, IsIndexOf}
 use Rattle.heap_palloc.proofs.SameHeaps.{rules_same}
 use Rattle.shown_state.proofs.FormattedImage.{formatted_is_sound}
-use Rattle.catalog.specs.Entries.{CatalogTable, CatalogState, KeepsTableRules}
+use Rattle.catalog.specs.Entries.{CatalogTable, KeepsTableRules}
 use Rattle.catalog.specs.Creation.{Creation, creation_parts}
 use Rattle.catalog.specs.Calls.{MayPlanCreation, IsCreationPlanned}
 use Rattle.catalog.proofs.Rebuilding.{sound_keeps}
@@ -52,7 +51,3 @@ module _ (d : Device) (whole : IsWhole d) (index : HeapIndex) (settled : IsSettl
           index_of = subst (λ (xs : List ℕ). IsIndexOf xs new) (sym is) planned.index_of;
           clean = clean;
         }
-
--- the catalog has a table to publish
-pub planned_some : (state : CatalogState) (tables : List CatalogTable) (table : CatalogTable) → state ≡ record { tables = tables; planned = Some table } → IsSome state.planned
-planned_some state tables table is = subst (λ (s : CatalogState). IsSome s.planned) (sym is) refl
