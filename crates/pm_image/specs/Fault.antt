@@ -1,5 +1,5 @@
 -- The first fault of bytes that are read as an image, from left to right.
-use Rattle.std.specs.Prelude.{◌≡◌, ◌==◌, ◌&&◌, ◌+◌, ◌*◌, ℕ, zero, suc, Bool, not, nat_eq, nat_lt, nat_le, List, [], ◌∷◌, length, drop, Option, Some, None, Result, Ok, Err, if◌then◌else◌}
+use Rattle.std.specs.Prelude.{◌≡◌, ◌≤◌, ◌==◌, ◌&&◌, ◌+◌, ◌*◌, ℕ, zero, suc, Bool, true, not, nat_eq, nat_lt, nat_le, List, [], ◌∷◌, length, drop, Option, Some, None, Result, Ok, Err, if◌then◌else◌}
 use Rattle.std.specs.List.{starts_with}
 use Rattle.std.specs.Global.{Vec}
 use Rattle.byteorder.specs.Endian.{little_number}
@@ -42,6 +42,15 @@ first_fault bytes =
     else if nat_lt (length bytes) 20 then Some Truncated
     else if nat_lt (64 * number_at 12 bytes) (number_at 16 bytes) then Some BadSize
     else items_fault (number_at 16 bytes) 0 0 (64 * number_at 12 bytes) (drop 20 bytes)
+
+-- the header is whole and has no fault: what is left to judge are the items
+pub record HasHeader (bytes : List ℕ) : Type 0 where
+  pub whole : 20 ≤ length bytes
+  pub begins : starts_with nat_eq bytes magic ≡ true
+  pub version : number_at 8 bytes ≡ 1
+  pub some_segments : 1 ≤ number_at 12 bytes
+  pub most_segments : number_at 12 bytes ≤ 128
+  pub pages : number_at 16 bytes ≤ 64 * number_at 12 bytes
 
 -- The result is a value where there is no fault, and else the fault, unless memory ran out.
 abbrev pub Answers : {A : Type 0} → Result A ImageError → Option ImageError → Type 0

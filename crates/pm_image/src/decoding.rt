@@ -1,8 +1,8 @@
 //! Reading an image from the bytes of a file.
 
-ghost use Rattle.std.specs.Prelude.{◌≡◌, ◌<◌, ◌≤◌, ◌+◌, ◌-◌, ◌*◌, ◌^◌, ◌++◌, ℕ, List, length, replicate, vec_len, All, Some, IfOk, OnOk};
+ghost use Rattle.std.specs.Prelude.{◌≡◌, ◌<◌, ◌≤◌, ◌+◌, ◌-◌, ◌*◌, ◌^◌, ◌++◌, ℕ, List, length, replicate, vec_len, All, Some, IfOk, OnOk, IsErrOf};
 ghost use Rattle.pm_image.specs.Spelling.{IsImage, pages_spelling, spelling, stored};
-ghost use Rattle.pm_image.specs.Fault.{Answers, Reads, first_fault, items_fault, words_in};
+ghost use Rattle.pm_image.specs.Fault.{Answers, HasHeader, Reads, first_fault, items_fault, words_in};
 
 use crate::error::ImageError;
 use crate::layout::{
@@ -103,6 +103,7 @@ fn read_pages(
 #[tactic(auto, unfolding(crate::specs::Fault::first_fault, crate::specs::Fault::number_at, crate::specs::Spelling::magic))]
 fn read_image(alloc: Global, bytes: &[u8]) -> Result<Vec<u64>, ImageError>
     ensures exact { Answers result (first_fault bytes.now) }
+    ensures header { IsErrOf result ImageError.NoMemory → HasHeader bytes.now }
     ensures found { IfOk result (λ words.
         IsImage words.items × (bytes.now ≡ spelling words.items)) }
 {
@@ -151,6 +152,8 @@ pub fn decode(alloc: Global, bytes: &[u8]) -> Result<Vec<u64>, ImageError>
     // Each error but want of memory is the first fault of the bytes, and there is a value only
     // where they have none.
     ensures exact { Answers result (first_fault bytes.now) }
+    // The header takes no memory: where memory runs out, it has no fault.
+    ensures header { IsErrOf result ImageError.NoMemory → HasHeader bytes.now }
 {
     read_image(alloc, bytes)
 }
