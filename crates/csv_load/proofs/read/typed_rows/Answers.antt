@@ -1,11 +1,12 @@
 use Rattle.std.proofs.Common.{Bor, List, [], ℕ, ◌≡◌, ◌+◌, ◌∙◌, length, sym, refl, rules, inl, inr, arith, true, Some}
 use Rattle.std.specs.Result.{is_ok}
 use Rattle.std.proofs.lemmas.Result.{err_from_is_err_and}
-use Rattle.csv.specs.Reading.{default_config, strip_bom}
+use Rattle.csv.specs.Reading.{default_config, error_kind, strip_bom}
 use Rattle.csv.specs.Records.{fields_of}
 use Rattle.csv.specs.declared.parser.State.TheVariants as st
 use Rattle.csv.proofs.ReadFacts.{rows-end, rows-more}
 use Rattle.csv_load.specs.Rows.{row_of, rows}
+use Rattle.csv_load.proofs.Failing.{of-bytes}
 use Rattle.csv_load.proofs.Table.{finished, fits, refused, refuses-all, start, step, strip-length}
 use Rattle.csv_load.proofs.read.typed_rows.Goals as goal
 
@@ -25,6 +26,7 @@ loop-record-init c =
       strip_bom c.args.bytes.now,
       from.source,
       start (strip_bom c.args.bytes.now) c.args.shape.now c.from_reader-reader.result.state (sym from.state),
+      rw flexible at from.flexible,
     )
 
 pub overflow_cast-nth : goal.overflow_cast-nth
@@ -62,7 +64,8 @@ loop-record-preserved c =
     let good : is_ok c.push.result ≡ true = search rules in
     let items = rw good at c.push.ensures.items in
     let nth : c.len.result + 1 ≡ length c.loop-record.rows.items + 1 = omega arith in
-    let row = rw c.columns.ensures.columns at c.in_ok-read_row.ensures in (
+    let row = rw c.columns.ensures.columns at c.in_ok-read_row.ensures in
+    let flexible = rw (c.in-Some.is, c.in-Ok.is) at ((c.next.ensures.steps inv.2 inv.0).3) in (
       s.0.3 ∙ inv.0,
       inl s.1,
       s.2,
@@ -70,7 +73,14 @@ loop-record-preserved c =
       m.0,
       m.1,
       step _ c.args.shape.now _ _ _ _ _ _ (fields_of c.in-Ok.record) c.in_ok-read_row.field-0 (c.len.result + 1) inv.6 m.2 nth row items,
+      flexible ∙ inv.7,
     )
+
+pub failure-requires : goal.failure-requires
+failure-requires c =
+    let inv = c.loop-record.invariant in
+    let why = rw (c.in-Some.is, c.in-Err.is) at ((c.next.ensures.steps inv.2 inv.0).0 inv.1) in
+    of-bytes (λ (s : Bor (List ℕ)). Some s.now) c.loop-record.record-iterator.rdr c.next.new.self.rdr (error_kind c.in-Err.error) inv.7 why
 
 pub returns : goal.returns
 returns c =
