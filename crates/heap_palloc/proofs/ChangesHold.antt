@@ -1,19 +1,21 @@
 -- An allocation and a freeing hold what their changes say.
-use Rattle.std.proofs.Common.{◌≡◌, ◌⊎◌, ℕ, ◌*◌, List, [], ◌∷◌}
+use Rattle.std.proofs.Common.{◌≡◌, ◌≢◌, ◌⊎◌, ℕ, ◌*◌, List, [], ◌∷◌, get_or}
+use Rattle.image_layout.specs.Places.{page_at}
 use Rattle.image_layout.specs.Pointer.{pointer_word}
 use Rattle.image_layout.specs.Blocks.{Block, slot_words, live_blocks}
 use Rattle.pm_model.specs.Changes.{HoldsOnWords}
 use Rattle.pm_model.specs.Plans.{Part, EachCut, finished, words_after}
-use Rattle.pm_model.proofs.Cuts.{each_cut-map}
+use Rattle.pm_model.proofs.Cuts.{each_cut-map, each_cut-end}
 use Rattle.heap_small.specs.Bitmap.{with_bit}
 use Rattle.heap_palloc.specs.Lane.{mended_lane}
 use Rattle.heap_palloc.specs.Parts.{Allocation}
 use Rattle.heap_palloc.specs.Law.{Shows, Allocates, Frees, slot_allocation, taking, taken, pages_allocation}
 use Rattle.heap_palloc.specs.Calls.{KeepsHeapRules, OwnsBlock}
 use Rattle.heap_palloc.specs.Choice.{Choice, in_page, on_new_page, in_run, choice_parts, choice_block, MayMake, Freed, of_slot, of_pages, freed_parts, MayRelease}
-use Rattle.heap_palloc.specs.Changes.{allocation, freeing, choice_lane, freed_lane, IsUnmade, IsMade, IsHeld, IsLetGo, choice_owner, IsBeside, IsOther, allocated_words, released_words, ShowsAllocation, EndsAllocation, ShowsRelease, EndsRelease}
+use Rattle.heap_palloc.specs.Changes.{allocation, freeing, choice_lane, freed_lane, IsUnmade, IsMade, IsHeld, IsLetGo, KeepsChoiceFirst, KeepsFreedFirst, choice_owner, IsBeside, IsOther, allocated_words, released_words, ShowsAllocation, EndsAllocation, ShowsRelease, EndsRelease}
 use Rattle.heap_palloc.proofs.Stages.{mended-idle}
 use Rattle.heap_palloc.proofs.Changes.{change_settles}
+use Rattle.heap_palloc.proofs.FirstWords.{taken_first, freed_first}
 use Rattle.heap_palloc.proofs.ChoiceStages.{IsStaged, choice_staged}
 use Rattle.heap_palloc.proofs.FreedStages.{IsFreedStaged, freed_staged}
 use Rattle.heap_palloc.proofs.Choices.{choice_plan, choice_allocates, freed_plan, freed_frees}
@@ -28,6 +30,23 @@ each_both : (P Q : List ℕ → Type 0) (parts : List Part) (words : List ℕ) �
 each_both P Q [] words p q = (p, q)
 each_both P Q (part ∷ parts) words p q = (λ image between. (p.0 image between, q.0 image between), each_both P Q parts (words_after part words) p.1 q.1)
 
+-- what holds of all words holds at each cut
+each_always : (P : List ℕ → Type 0) (parts : List Part) (words : List ℕ) → ((image : List ℕ) → P image) → EachCut P parts words
+each_always P [] words always = always words
+each_always P (part ∷ parts) words always = (λ image between. always image, each_always P parts (words_after part words) always)
+
+-- where a premise gives something at each cut, each cut has it by the premise
+each_given : (A : Type 0) (P : List ℕ → Type 0) (parts : List Part) (words : List ℕ) → (A → EachCut P parts words) → EachCut (λ image. A → P image) parts words
+each_given A P [] words cuts = cuts
+each_given A P (part ∷ parts) words cuts = (λ image between given. (cuts given).0 image between, each_given A P parts (words_after part words) (λ given. (cuts given).1))
+
+choice_first : (choice : Choice) (base : List ℕ) → MayMake base choice → EachCut (KeepsChoiceFirst choice base) (choice_parts base choice) base
+choice_first (in_page s) base may = each_always (KeepsChoiceFirst (in_page s) base) (choice_parts base (in_page s)) base (λ image. tt)
+choice_first (on_new_page s) base may = each_always (KeepsChoiceFirst (on_new_page s) base) (choice_parts base (on_new_page s)) base (λ image. tt)
+choice_first (in_run r) base may =
+    each_given (page_at r.first ≢ r.owner) (λ image. get_or image (page_at r.first) 0 ≡ get_or base (page_at r.first) 0) (choice_parts base (in_run r)) base
+    (λ apart. taken_first base r may.idle may.run apart)
+
 -- once its lane is mended
 abbrev IsMadeOrNot : List ℕ → Choice → List ℕ → Type 0
 IsMadeOrNot base choice image = IsUnmade base choice (mended_lane (choice_lane choice) image) ⊎ IsMade base choice (mended_lane (choice_lane choice) image)
@@ -39,9 +58,10 @@ choice_mended (in_run r) base may = (choice_allocates base (in_run r) may).chang
 
 choice_cuts : (choice : Choice) (base : List ℕ) → MayMake base choice → EachCut (ShowsAllocation choice base) (choice_parts base choice) base
 choice_cuts choice base may =
-    each_cut-map (λ image. IsStaged base choice image × IsMadeOrNot base choice image) (ShowsAllocation choice base) (choice_parts base choice) base
-    (λ image both. record { stage = both.0.stage; rules = both.0.rules; given_back = both.0.given_back; mended = both.1 })
-    (each_both (IsStaged base choice) (IsMadeOrNot base choice) (choice_parts base choice) base (choice_staged base choice may) (choice_mended choice base may))
+    each_cut-map (λ image. IsStaged base choice image × (IsMadeOrNot base choice image × KeepsChoiceFirst choice base image)) (ShowsAllocation choice base) (choice_parts base choice) base
+    (λ image all. record { stage = all.0.stage; rules = all.0.rules; given_back = all.0.given_back; first_word = all.1.1; mended = all.1.0 })
+    (each_both (IsStaged base choice) (λ image. IsMadeOrNot base choice image × KeepsChoiceFirst choice base image) (choice_parts base choice) base (choice_staged base choice may)
+    (each_both (IsMadeOrNot base choice) (KeepsChoiceFirst choice base) (choice_parts base choice) base (choice_mended choice base may) (choice_first choice base may)))
 
 -- by its allocation, which each choice has
 module _ (a : Allocation) (page pages size : ℕ) (parts : List Part) (base : List ℕ) (allocates : Allocates a page pages size parts base) where
@@ -58,6 +78,7 @@ choice_ends (in_page s) base may =
     record {
       made = ended_made (taking base s) s.page 1 (slot_words s.class) parts base allocates;
       gains = allocates.gains;
+      first_word = each_cut-end (KeepsChoiceFirst (in_page s) base) parts base (choice_first (in_page s) base may);
       idle = allocates.changes.idle;
       mended = ended_mended (taking base s) s.page 1 (slot_words s.class) parts base allocates;
       rules = λ rules. choice_rules base (in_page s) rules may;
@@ -68,6 +89,7 @@ choice_ends (on_new_page s) base may =
     record {
       made = ended_made (slot_allocation s (with_bit 0 s.slot)) s.page 1 (slot_words s.class) parts base allocates;
       gains = allocates.gains;
+      first_word = each_cut-end (KeepsChoiceFirst (on_new_page s) base) parts base (choice_first (on_new_page s) base may);
       idle = allocates.changes.idle;
       mended = ended_mended (slot_allocation s (with_bit 0 s.slot)) s.page 1 (slot_words s.class) parts base allocates;
       rules = λ rules. choice_rules base (on_new_page s) rules may;
@@ -78,6 +100,7 @@ choice_ends (in_run r) base may =
     record {
       made = ended_made (pages_allocation r) r.first r.pages (512 * r.pages) parts base allocates;
       gains = allocates.gains;
+      first_word = each_cut-end (KeepsChoiceFirst (in_run r) base) parts base (choice_first (in_run r) base may);
       idle = allocates.changes.idle;
       mended = ended_mended (pages_allocation r) r.first r.pages (512 * r.pages) parts base allocates;
       rules = λ rules. choice_rules base (in_run r) rules may;
@@ -100,11 +123,18 @@ freed_mended : (freed : Freed) (base : List ℕ) → MayRelease base freed → E
 freed_mended (of_slot s) base may = (freed_frees base (of_slot s) may).changes.cuts
 freed_mended (of_pages r) base may = (freed_frees base (of_pages r) may).changes.cuts
 
+freed_first_word : (freed : Freed) (base : List ℕ) → MayRelease base freed → EachCut (KeepsFreedFirst freed base) (freed_parts base freed) base
+freed_first_word (of_slot s) base may = each_always (KeepsFreedFirst (of_slot s) base) (freed_parts base (of_slot s)) base (λ image. tt)
+freed_first_word (of_pages r) base may =
+    each_given (page_at r.first ≢ r.owner) (λ image. get_or image (page_at r.first) 0 ≡ get_or base (page_at r.first) 0) (freed_parts base (of_pages r)) base
+    (λ apart. freed_first base r may.idle may.run apart)
+
 freed_cuts : (freed : Freed) (base : List ℕ) → MayRelease base freed → EachCut (ShowsRelease freed base) (freed_parts base freed) base
 freed_cuts freed base may =
-    each_cut-map (λ image. IsFreedStaged base freed image × IsHeldOrNot base freed image) (ShowsRelease freed base) (freed_parts base freed) base
-    (λ image both. record { stage = both.0.stage; rules = both.0.rules; given_back = both.0.given_back; mended = both.1 })
-    (each_both (IsFreedStaged base freed) (IsHeldOrNot base freed) (freed_parts base freed) base (freed_staged base freed may) (freed_mended freed base may))
+    each_cut-map (λ image. IsFreedStaged base freed image × (IsHeldOrNot base freed image × KeepsFreedFirst freed base image)) (ShowsRelease freed base) (freed_parts base freed) base
+    (λ image all. record { stage = all.0.stage; rules = all.0.rules; given_back = all.0.given_back; first_word = all.1.1; mended = all.1.0 })
+    (each_both (IsFreedStaged base freed) (λ image. IsHeldOrNot base freed image × KeepsFreedFirst freed base image) (freed_parts base freed) base (freed_staged base freed may)
+    (each_both (IsHeldOrNot base freed) (KeepsFreedFirst freed base) (freed_parts base freed) base (freed_mended freed base may) (freed_first_word freed base may)))
 
 module _ (a : Allocation) (page pages size : ℕ) (parts : List Part) (base : List ℕ) (frees : Frees a page pages size parts base) where
   ended_free : mended_lane a.lane (finished parts base) ≡ finished parts base
@@ -120,6 +150,7 @@ freed_ends (of_slot s) base may =
     record {
       let_go = ended_let_go (taken base s) s.page 1 (slot_words s.class) parts base frees;
       loses = frees.loses;
+      first_word = each_cut-end (KeepsFreedFirst (of_slot s) base) parts base (freed_first_word (of_slot s) base may);
       idle = frees.changes.idle;
       mended = ended_free (taken base s) s.page 1 (slot_words s.class) parts base frees;
       rules = λ rules. freed_rules base (of_slot s) rules may;
@@ -130,6 +161,7 @@ freed_ends (of_pages r) base may =
     record {
       let_go = ended_let_go (pages_allocation r) r.first r.pages (512 * r.pages) parts base frees;
       loses = frees.loses;
+      first_word = each_cut-end (KeepsFreedFirst (of_pages r) base) parts base (freed_first_word (of_pages r) base may);
       idle = frees.changes.idle;
       mended = ended_free (pages_allocation r) r.first r.pages (512 * r.pages) parts base frees;
       rules = λ rules. freed_rules base (of_pages r) rules may;

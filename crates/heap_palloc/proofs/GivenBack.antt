@@ -109,7 +109,7 @@ module _ (base : List ℕ) where
 
 -- a word that is none of their descriptors isn't written
 module _ (base : List ℕ) where
-  forget-out : (n a w : ℕ) → ((k : ℕ) → a ≤ k → k < a + n → w ≢ descriptor_at k) → footprint (forget_given_back base (range_with_len a n)) w ≡ false
+  pub forget-out : (n a w : ℕ) → ((k : ℕ) → a ≤ k → k < a + n → w ≢ descriptor_at k) → footprint (forget_given_back base (range_with_len a n)) w ≡ false
   forget-out zero a w apart = refl
   forget-out (suc n) a w apart = by (eqb (get_or base (descriptor_at a) 0) 1) (forget-out n (a + 1) w (λ k x y. apart k (omega arith) (omega arith)))
     where

@@ -8,6 +8,7 @@ pub mod Choices
 pub mod ChoiceStages
 pub mod Choosing
 pub mod Dests
+pub mod FirstWords
 pub mod Forgetting
 pub mod FreedStages
 pub mod Freeing

@@ -45,8 +45,8 @@ pub record IsPlanned (words : List ℕ) (new : HeapIndex) (choice : Choice) (pla
     pub size_is : size ≡ (choice_block choice).words
     pub index_of : IsIndexOf (finished (choice_parts words choice) words) new
 
--- the same of the first free slot of a small page, of the first slot of a page of the best fit that is made small, and of
--- so many pages of the best fit
+-- the same of the first free slot of a small page, of the first slot of a page of the best fit that is made small, and
+-- of so many pages of the best fit
 abbrev pub IsSlotPlanned : List ℕ → HeapIndex → ℕ → ℕ → ℕ → ℕ → List Action → ℕ → ℕ → Type 0
 IsSlotPlanned words new lane dest page class plan first size =
     (slot : ℕ) × IsFirstClear (bitmap_of words page) slot
@@ -82,8 +82,8 @@ pub record OwnsBlock (words : List ℕ) (dest : ℕ) (block : Block) : Type 0 wh
   pub clean : (page : ℕ) → page_of block.first < page → page_at page < block.first + block.words
       → descriptor_of words page ≡ 0
 
--- The freeing of a block whose pointer the word at `dest` holds is planned: these actions. Once the plan was played, the
--- index stands for the words.
+-- The freeing of a block whose pointer the word at `dest` holds is planned: these actions. Once the plan was played,
+-- the index stands for the words.
 pub record IsReleased (words : List ℕ) (new : HeapIndex) (dest : ℕ) (freed : Freed) (plan : List Action) : Type 0 where
   pub may : MayRelease words freed
   pub block_is : (block : Block) → OwnsBlock words dest block → freed_block freed ≡ block

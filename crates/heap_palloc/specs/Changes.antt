@@ -4,7 +4,7 @@ use Rattle.pm_model.specs.Changes.{Change}
 use Rattle.pm_model.specs.Plans.{finished}
 use Rattle.image_layout.specs.declared.layout.TheConstants.{ALLOCATING, FREEING, GIVEN_BACK, IDLE}
 use Rattle.image_layout.specs.Fixed.{lane_op_at, lane_dest_at, lane_block_at}
-use Rattle.image_layout.specs.Places.{page_of}
+use Rattle.image_layout.specs.Places.{page_of, page_at}
 use Rattle.image_layout.specs.Pointer.{pointer_word}
 use Rattle.image_layout.specs.Blocks.{Block, descriptor_of, is_inside, is_small_page, live_blocks}
 use Rattle.heap_palloc.specs.Lane.{mended_lane}
@@ -15,8 +15,8 @@ use Rattle.heap_palloc.specs.Calls.{KeepsHeapRules}
 
 -- ── what they read ──
 
--- What the plan of a big block reads is the same: the lane's op, the owner's word, the descriptors of the block's pages,
--- whether the first of them stands inside a big block, and whether the owner's page is a small one.
+-- What the plan of a big block reads is the same: the lane's op, the owner's word, the descriptors of the block's
+-- pages, whether the first of them stands inside a big block, and whether the owner's page is a small one.
 pub record SameRunRead (old new : List ℕ) (r : Pages) : Type 0 where
   pub size : length new ≡ length old
   pub op : slice_index new (lane_op_at r.lane) ≡ slice_index old (lane_op_at r.lane)
@@ -33,6 +33,24 @@ SameChoiceRead (in_run r) old new = SameRunRead old new r
 abbrev pub SameFreedRead : Freed → List ℕ → List ℕ → Type 0
 SameFreedRead (of_slot s) old new = SameRead old new s
 SameFreedRead (of_pages r) old new = SameRunRead old new r
+
+-- ── what they leave to a block's owner ──
+
+-- The first word of a big block's pages stays, unless it is the owner's.
+abbrev pub KeepsFirstWord : Pages → List ℕ → List ℕ → Type 0
+KeepsFirstWord r old new =
+    page_at r.first ≢ r.owner → slice_index new (page_at r.first) ≡ slice_index old (page_at r.first)
+
+-- the same of an allocation; on a small page that word is the bitmap
+abbrev pub KeepsChoiceFirst : Choice → List ℕ → List ℕ → Type 0
+KeepsChoiceFirst (in_page s) old new = Unit {0}
+KeepsChoiceFirst (on_new_page s) old new = Unit {0}
+KeepsChoiceFirst (in_run r) old new = KeepsFirstWord r old new
+
+-- and of a freeing
+abbrev pub KeepsFreedFirst : Freed → List ℕ → List ℕ → Type 0
+KeepsFreedFirst (of_slot s) old new = Unit {0}
+KeepsFreedFirst (of_pages r) old new = KeepsFirstWord r old new
 
 -- ── what stages say ──
 
@@ -89,8 +107,8 @@ abbrev pub IsChoiceLaneAt : Choice → ℕ → List ℕ → Type 0
 IsChoiceLaneAt choice op words =
     IsLaneAt (choice_lane choice) (choice_owner choice) (choice_block choice).first op words
 
--- The stages at which a cut can leave an allocation. Its lane isn't at work; it is, and the block has no mark; it has one,
--- and no word names it; its owner's word names it; and the lane is idle again.
+-- The stages at which a cut can leave an allocation. Its lane isn't at work; it is, and the block has no mark; it has
+-- one, and no word names it; its owner's word names it; and the lane is idle again.
 pub data AllocationStage (base : List ℕ) (choice : Choice) (image : List ℕ) : Type 0 where
   before : IsChoiceLaneAt choice IDLE image → IsUnmade base choice image → AllocationStage base choice image
   logged : IsChoiceLaneAt choice ALLOCATING image → IsUnmade base choice image → AllocationStage base choice image
@@ -98,20 +116,23 @@ pub data AllocationStage (base : List ℕ) (choice : Choice) (image : List ℕ) 
   owned : IsChoiceLaneAt choice ALLOCATING image → IsMade base choice image → AllocationStage base choice image
   made : IsChoiceLaneAt choice IDLE image → IsMade base choice image → AllocationStage base choice image
 
--- What a cut of an allocation shows: as the cut left it one of the stages, where the heap's rules go on to hold and no page
--- is given back that wasn't; and once the lane is mended the words before it or after it.
+-- What a cut of an allocation shows: as the cut left it one of the stages, where the heap's rules go on to hold, no
+-- page is given back that wasn't, and a big block has its first word; and once the lane is mended the words before it
+-- or after it.
 pub record ShowsAllocation (choice : Choice) (base image : List ℕ) : Type 0 where
   pub stage : AllocationStage base choice image
   pub rules : KeepsHeapRules base → KeepsHeapRules image
   pub given_back : IsNoneGivenBack base image
+  pub first_word : KeepsChoiceFirst choice base image
   pub mended : IsUnmade base choice (mended_lane (choice_lane choice) image)
       ⊎ IsMade base choice (mended_lane (choice_lane choice) image)
 
--- What the words after an allocation show: one live block more, whose pointer the owner's word holds. The lane is idle, so
--- that mending it leaves them, and the heap's rules hold as before.
+-- What the words after an allocation show: one live block more, whose pointer the owner's word holds, and of a big one
+-- the first word as it was. The lane is idle, so that mending it leaves them, and the heap's rules hold as before.
 pub record EndsAllocation (choice : Choice) (base words : List ℕ) : Type 0 where
   pub made : IsMade base choice words
   pub gains : GainsOne (live_blocks base) (choice_block choice) (live_blocks words)
+  pub first_word : KeepsChoiceFirst choice base words
   pub idle : slice_index words (lane_op_at (choice_lane choice)) ≡ 0
   pub mended : mended_lane (choice_lane choice) words ≡ words
   pub rules : KeepsHeapRules base → KeepsHeapRules words
@@ -169,8 +190,8 @@ IsDisowned base freed words = ShowsFreeing base freed (live_blocks base) 0 words
 abbrev pub IsFreedLaneAt : Freed → ℕ → List ℕ → Type 0
 IsFreedLaneAt freed op words = IsLaneAt (freed_lane freed) (freed_owner freed) (freed_block freed).first op words
 
--- The stages at which a cut can leave a freeing. Its lane isn't at work; it is, and the owner's word names the block; no word
--- names it; it has no mark; and the lane is idle again.
+-- The stages at which a cut can leave a freeing. Its lane isn't at work; it is, and the owner's word names the block;
+-- no word names it; it has no mark; and the lane is idle again.
 pub data FreeingStage (base : List ℕ) (freed : Freed) (image : List ℕ) : Type 0 where
   held : IsFreedLaneAt freed IDLE image → IsHeld base freed image → FreeingStage base freed image
   noted : IsFreedLaneAt freed FREEING image → IsHeld base freed image → FreeingStage base freed image
@@ -178,20 +199,23 @@ pub data FreeingStage (base : List ℕ) (freed : Freed) (image : List ℕ) : Typ
   unmarked : IsFreedLaneAt freed FREEING image → IsLetGo base freed image → FreeingStage base freed image
   let_go : IsFreedLaneAt freed IDLE image → IsLetGo base freed image → FreeingStage base freed image
 
--- What a cut of a freeing shows: as the cut left it one of the stages, where the heap's rules go on to hold and no page is
--- given back that wasn't; and once the lane is mended the words before it or after it.
+-- What a cut of a freeing shows: as the cut left it one of the stages, where the heap's rules go on to hold, no page is
+-- given back that wasn't, and a big block has its first word; and once the lane is mended the words before it or after
+-- it.
 pub record ShowsRelease (freed : Freed) (base image : List ℕ) : Type 0 where
   pub stage : FreeingStage base freed image
   pub rules : KeepsHeapRules base → KeepsHeapRules image
   pub given_back : IsNoneGivenBack base image
+  pub first_word : KeepsFreedFirst freed base image
   pub mended : IsHeld base freed (mended_lane (freed_lane freed) image)
       ⊎ IsLetGo base freed (mended_lane (freed_lane freed) image)
 
--- What the words after a freeing show: one live block less, and the owner's word null. The lane is idle, so that mending it
--- leaves them, and the heap's rules hold as before.
+-- What the words after a freeing show: one live block less, the owner's word null, and of a big one the first word as
+-- it was. The lane is idle, so that mending it leaves them, and the heap's rules hold as before.
 pub record EndsRelease (freed : Freed) (base words : List ℕ) : Type 0 where
   pub let_go : IsLetGo base freed words
   pub loses : GainsOne (live_blocks words) (freed_block freed) (live_blocks base)
+  pub first_word : KeepsFreedFirst freed base words
   pub idle : slice_index words (lane_op_at (freed_lane freed)) ≡ 0
   pub mended : mended_lane (freed_lane freed) words ≡ words
   pub rules : KeepsHeapRules base → KeepsHeapRules words

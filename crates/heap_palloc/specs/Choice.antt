@@ -65,9 +65,9 @@ IsBestFit runs pages first = (left : List Run) × TakesBestFit runs pages (recor
 abbrev pub IsFirstWithRoom : List ℕ → ℕ → ℕ → Type 0
 IsFirstWithRoom words class page = (rest : List ℕ) × (pages_with_room words class ≡ page ∷ rest)
 
--- Where a request for so many words goes. Up to 256 it takes the least class that holds them: the least free slot of the
--- lowest small page of the class that has one, and where there is none the first slot of a page of the best fit. Above
--- that it takes the least number of pages that holds them, of the best fit.
+-- Where a request for so many words goes. Up to 256 it takes the least class that holds them: the least free slot of
+-- the lowest small page of the class that has one, and where there is none the first slot of a page of the best fit.
+-- Above that it takes the least number of pages that holds them, of the best fit.
 abbrev pub IsChosen : List ℕ → List Run → ℕ → Choice → Type 0
 IsChosen words runs count (in_page s) =
     (count ≤ 256) × (s.class ≡ class_for count)

@@ -9,7 +9,8 @@ use Rattle.heap_small.specs.Bitmap.{without_bit}
 abbrev pub is_big_place : ℕ → Bool
 is_big_place block = block % 512 == 0
 
--- The mark of a block is the word that says whether it is allocated: the descriptor of its head, or the bitmap of its page.
+-- The mark of a block is the word that says whether it is allocated: the descriptor of its head, or the bitmap of its
+-- page.
 abbrev pub mark_at : ℕ → ℕ
 mark_at block = (if is_big_place block then descriptor_at (page_of block) else page_at (page_of block))
 

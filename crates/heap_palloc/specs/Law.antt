@@ -1,4 +1,5 @@
--- What a heap plan keeps through each power cut: the live blocks gain or lose one block, and the owner's word with them.
+-- What a heap plan keeps through each power cut: the live blocks gain or lose one block, and the owner's word with
+-- them.
 use Rattle.std.specs.Prelude.{◌≡◌, ◌≢◌, ◌⊎◌, ℕ, ◌+◌, ◌%◌, ◌<◌, ◌≤◌, true, false, List, length, slice_index}
 use Rattle.std.specs.Int.{bit_at}
 use Rattle.pm_model.specs.declared.action.Action.{Action}
@@ -12,8 +13,8 @@ use Rattle.heap_palloc.specs.Lane.{mended_lane}
 use Rattle.heap_palloc.specs.Parts.{Allocation}
 use Rattle.heap_palloc.specs.Shown.{IsOutsideLane, GainsOne}
 
--- a word that no plan writes on a block of these pages: none of the lane, not the owner's, no descriptor of them, and not
--- the first word of the first one
+-- a word that no plan writes on a block of these pages: none of the lane, not the owner's, no descriptor of them, and
+-- not the first word of the first one
 pub record IsElsewhere (lane owner page pages w : ℕ) : Type 0 where
   pub outside_lane : IsOutsideLane lane w
   pub no_owner : w ≢ owner
@@ -180,8 +181,8 @@ pub record MayFreePages (words : List ℕ) (r : Pages) : Type 0 where
   pub head : descriptor_of words r.first ≡ 16 + r.pages
   pub clean : (k : ℕ) → 0 < k → k < r.pages → descriptor_of words (r.first + k) ≡ 0
 
--- What the three of them read is the same: the lane's op, the owner's word, the page's descriptor and bitmap, and of the
--- owner's page and this one whether they are small and whether they are free.
+-- What the three of them read is the same: the lane's op, the owner's word, the page's descriptor and bitmap, and of
+-- the owner's page and this one whether they are small and whether they are free.
 pub record SameRead (old new : List ℕ) (s : Slot) : Type 0 where
   pub size : length new ≡ length old
   pub op : slice_index new (lane_op_at s.lane) ≡ slice_index old (lane_op_at s.lane)

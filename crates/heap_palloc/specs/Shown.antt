@@ -65,7 +65,8 @@ pub record MayFree (words : List ℕ) (a : Allocation) (clear : ℕ) : Type 0 wh
   pub allocated : slice_index words (mark_at a.block) ≡ a.marked
   pub clears : IsClearMark words a clear
 
--- Mended at the lane, each image of a plan shows the words before it or those after it, and its end shows those after it.
+-- Mended at the lane, each image of a plan shows the words before it or those after it, and its end shows those after
+-- it.
 pub record IsAtomic (lane : ℕ) (parts : List (List Action)) (base : List ℕ) : Type 0 where
   pub cuts : EachCut (λ image. SameButLane lane base (mended_lane lane image)
       ⊎ SameButLane lane (finished parts base) (mended_lane lane image)) parts base

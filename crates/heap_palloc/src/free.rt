@@ -95,6 +95,7 @@ fn free_slot<M: Memory>(
     push_freeing(&mut plan, lane, dest, first, clear);
     let was_full = first_free(bitmap, class).is_none();
     if clear == 0 {
+        // The descriptor comes last: from here on the page is free, and no block of it was live before.
         plan.push_store(descriptor(Page(page)), 0);
         give_back_page(heap, class, page, was_full);
     } else if was_full {

@@ -17,14 +17,14 @@ pub fn lane_law()
         IsAtomic a.lane (freeing_parts a clear) base }
 {}
 
-/// A law for proofs: an allocation, whichever way it goes. Once its lane is mended, each cut shows the live blocks before it
-/// and a null owner's word, or one block more and its pointer.
+/// A law for proofs: an allocation, whichever way it goes. Once its lane is mended, each cut shows the live blocks
+/// before it and a null owner's word, or one block more and its pointer.
 ///
 /// What a cut can leave of it, and who completes it in how many stores:
 ///
 /// | op | the mark | the owner's word | completed by | stores |
 /// |---|---|---|---|---|
-/// | 0 | without the block | 0 | nobody: nothing is allocated, though a free page may have become small, or a page that was given back be just free | 0 |
+/// | 0 | without the block | 0 | nobody: nothing is allocated; a free page may be small, one given back just free | 0 |
 /// | 1 | without the block | 0 | the mending of the lane: nothing is allocated | 1 |
 /// | 1 | with the block | 0 | the mending of the lane: nothing is allocated | 2 |
 /// | 1 | with the block | its pointer | the mending of the lane: the block is allocated | 1 |
@@ -33,8 +33,8 @@ pub fn allocation_law()
     ensures { (choice : Choice) → Survives (allocation choice) }
 {}
 
-/// A law for proofs: a freeing, of whichever block. Once its lane is mended, each cut shows the live blocks before it and the
-/// block's pointer, or one block less and a null owner's word.
+/// A law for proofs: a freeing, of whichever block. Once its lane is mended, each cut shows the live blocks before it
+/// and the block's pointer, or one block less and a null owner's word.
 ///
 /// What a cut can leave of it, and who completes it in how many stores:
 ///
@@ -49,9 +49,9 @@ pub fn freeing_law()
     ensures { (freed : Freed) → Survives (freeing freed) }
 {}
 
-/// A law for proofs: which words own a block. Once an allocation was played, its owner's word owns the block, where no live
-/// block began before, and once a freeing was played, each other block has its owner still. A word that no plan on these
-/// pages writes owns what it did.
+/// A law for proofs: which words own a block. Once an allocation was played, its owner's word owns the block, where no
+/// live block began before, and once a freeing was played, each other block has its owner still. A word that no plan on
+/// these pages writes owns what it did.
 pub fn owners_law()
     ensures gives { (base : List ℕ) (choice : Choice) →
         MayMake base choice → OwnsBlock (allocated_words base choice) (choice_owner choice) (choice_block choice) }

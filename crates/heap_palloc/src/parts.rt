@@ -80,6 +80,8 @@ pub(crate) fn push_allocation(plan: &mut Plan, lane: u8, owner: Place, block: Pl
     plan.push_store(mark_of(block), marked);
     // From here on the block is allocated, also once the lane is mended.
     plan.push_store(owner, PPtr::of(block).word());
+    // From here on opening passes over the lane. Idle before the owner's word, a cut would leave a block that no word
+    // names.
     plan.push_store(lane_op(lane), IDLE);
 }
 
@@ -98,7 +100,10 @@ pub(crate) fn push_freeing(plan: &mut Plan, lane: u8, owner: Place, block: Place
     plan.push_store(lane_op(lane), FREEING);
     // The owner's word comes before the mark: else it would name a block that isn't live.
     plan.push_store(owner, 0);
+    // From here on the block's words are free, and no word names them.
     plan.push_store(mark_of(block), clear);
+    // From here on opening passes over the lane. Idle before the mark, a cut would leave a live block that no word
+    // names.
     plan.push_store(lane_op(lane), IDLE);
 }
 
@@ -112,6 +117,7 @@ pub(crate) fn push_new_page(plan: &mut Plan, page: Page, class: u8)
 {
     // The bitmap comes before the descriptor: else the page would have the blocks that old words happen to say.
     plan.push_store(Place(PAGE_WORDS * u32::from(page.0)), 0);
+    // From here on the page is a small one, with each slot free.
     plan.push_store(descriptor(page), SMALL_PAGE + u64::from(class));
 }
 
@@ -143,6 +149,7 @@ fn push_given_back<M: Memory>(plan: &mut Plan, mem: &M, run: Run) -> u32
     for page in 0..run.pages {
         let place = descriptor(Page(run.first + page as u16));
         if mem.load(place) == GIVEN_BACK {
+            // Before the block is live: behind its head each descriptor is 0.
             plan.push(Action::Store { place, value: 0 });
             count += 1;
         }

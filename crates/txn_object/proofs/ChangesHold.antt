@@ -22,6 +22,7 @@ use Rattle.txn_object.specs.Extension.{Source, owned, allocated, Extension, new_
 use Rattle.txn_object.specs.Object.{entries_in, entry_part, nth_place, clear_part, retire_parts}
 use Rattle.txn_object.specs.Shown.{Shows, HasObject, MayEnter, IsRetiring, IsRetired}
 use Rattle.txn_object.specs.Spared.{its_pointer}
+use Rattle.txn_object.proofs.After.{begun_enters, enters_after, owns_after}
 use Rattle.txn_object.proofs.Entering.{state_object, state_shows, entry_object, entry_shows, entry_packed}
 use Rattle.txn_object.proofs.Frames.{SameFrame, entry_in, pointer_same, segment_same, ready_pointers_same}
 use Rattle.txn_object.proofs.Parts.{begin_segments, begin_goes_on, entry_segments, entry_goes_on, entry_places_stay, entry_next, retiring_same, retire_begins}
@@ -48,6 +49,7 @@ begin_is object base has = record {
   others = λ w apart. get_or-set_other base (state_at object) w 1 0 apart;
   shows = λ transaction shows. state_shows base object 1 has transaction shows;
   is_object = state_object base object 1 has (omega arith);
+  next = λ nth entry may. begun_enters base object nth entry may;
   goes_on = record {
     segments = λ segments. (begin_segments base object has segments).1;
     extends = λ index may. (begin_goes_on base object has index may).1;
@@ -116,8 +118,10 @@ extension_ends e base may =
       extended = shown.ends;
       allocates = shown.allocates;
       owned = shown.owned_stays;
+      owns = owns_after e base may;
       mended = shown.mended;
       segments = shown.again;
+      next = λ has packed entry spelt. enters_after e base may has packed entry spelt;
       again = shown.goes_on;
     }
 

@@ -154,7 +154,7 @@ module _ (base : List ℕ) (e : Extension) (may : MayExtend base e) (page : ℕ)
       let other = taken base may.segments.rules (segment_of base e.object n) (may.segments.live n (omega (arith, le))) in
       let a = old.stands.first in let b = other.stands.first in omega (arith, a, b, small, is)
 
-  entry_untouched : (k : ℕ) → k < length (entry_places base e.object) → IsElsewhereOf base e.object e.source (get_or (entry_places base e.object) k 0) × IsOutside (new_segment e) (get_or (entry_places base e.object) k 0) × (get_or (entry_places base e.object) k 0 ≢ ready_at e.object)
+  pub entry_untouched : (k : ℕ) → k < length (entry_places base e.object) → IsElsewhereOf base e.object e.source (get_or (entry_places base e.object) k 0) × IsOutside (new_segment e) (get_or (entry_places base e.object) k 0) × (get_or (entry_places base e.object) k 0 ≢ ready_at e.object)
   entry_untouched k lt = ⊎_elim
       (λ own. let at = own.1 in let small = own.0 in let number = may.number in
       fixed_untouched (get_or (entry_places base e.object) k 0) (omega (arith, at)) (omega (arith, at, small, number)) (inr (omega (arith, at)))

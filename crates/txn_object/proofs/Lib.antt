@@ -1,3 +1,4 @@
+pub mod After
 pub mod ChangesHold
 pub mod Clears
 pub mod Entering

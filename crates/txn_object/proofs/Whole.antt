@@ -70,6 +70,7 @@ pub record IsShown (base : List ℕ) (e : Extension) : Type 0 where
   pub again : HasSegments (finished (extension_parts base e) base) e.object
   pub goes_on : (index : HeapIndex) → IsIndexOf (finished (extension_parts base e) base) index → MayPlanExtension (finished (extension_parts base e) base) index e.object
   pub allocates : get_or base (pointer_after base e.object) 0 ≡ 0 → GainsOne (live_blocks base) (segment_block (new_segment e)) (live_blocks (finished (extension_parts base e) base))
+  pub live : Contains (live_blocks (finished (extension_parts base e) base)) (segment_block (new_segment e))
   pub owned_stays : get_or base (pointer_after base e.object) 0 ≢ 0 → live_blocks (finished (extension_parts base e) base) ≡ live_blocks base
 
 module _ (base : List ℕ) (e : Extension) (may : MayExtend base e) (page : ℕ) (stands : StandsOn base (new_segment e) page) where
@@ -172,6 +173,7 @@ owned_shown base object segment may =
       again = again;
       goes_on = end_goes_on base (record { object = object; source = owned segment }) may page stands base at again;
       allocates = λ none. absurd (pointer-some segment (sym may.source.0 ∙ none));
+      live = subst (λ (blocks : List Block). Contains blocks (segment_block segment)) (sym (blocks_end base (record { object = object; source = owned segment }) may page stands base at)) may.source.1;
       owned_stays = λ some. blocks_end base (record { object = object; source = owned segment }) may page stands base at;
     }
 
@@ -238,6 +240,9 @@ module _ (base : List ℕ) (object : ℕ) (choice : Choice) (may : MayExtend bas
     goes_on = end_goes_on base (record { object = object; source = allocated choice }) may page stands (finished (choice_parts base choice) base) at again_here;
     allocates = λ none. subst (λ (blocks : List Block). GainsOne (live_blocks base) (segment_block (choice_block choice).first) blocks)
         (sym (blocks_end base (record { object = object; source = allocated choice }) may page stands (finished (choice_parts base choice) base) at)) gains;
+    live = subst (λ (blocks : List Block). Contains blocks (segment_block (choice_block choice).first))
+        (sym (blocks_end base (record { object = object; source = allocated choice }) may page stands (finished (choice_parts base choice) base) at))
+        (gained_live (live_blocks base) (live_blocks (finished (choice_parts base choice) base)) (segment_block (choice_block choice).first) gains);
     owned_stays = λ some. absurd (some (choice_unowned base object (pointer_after base object) choice may.source.0 may.source.1));
   }
 

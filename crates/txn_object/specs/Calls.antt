@@ -24,8 +24,8 @@ pub record OwnsNext (words : List ℕ) (object : ℕ) : Type 0 where
   pub live : Contains (live_blocks words) (segment_block (place_in (next_pointer words object)))
   pub apart : IsNoSegment words object (place_in (next_pointer words object))
 
--- The rules of the heap and of the object hold, its segments are blocks of the heap, the index stands for the words, and
--- the lane is idle. Where the object has the pointer of a segment behind its ready ones, it owns that too.
+-- The rules of the heap and of the object hold, its segments are blocks of the heap, the index stands for the words,
+-- and the lane is idle. Where the object has the pointer of a segment behind its ready ones, it owns that too.
 pub record MayPlanExtension (words : List ℕ) (index : HeapIndex) (object : ℕ) : Type 0 where
   pub segments : HasSegments words object
   pub index_of : IsIndexOf words index
@@ -37,8 +37,8 @@ abbrev pub IsChosenSource : List ℕ → HeapIndex → Source → Type 0
 IsChosenSource words old source =
     (choice : Choice) × (source ≡ allocated choice) × IsChosen words old.free.runs 256 choice
 
--- An extension is planned. Where the object didn't own the segment, it is allocated as the heap allocates; where it did, the
--- index stays. Once the plan was played, the index stands for the words.
+-- An extension is planned. Where the object didn't own the segment, it is allocated as the heap allocates; where it
+-- did, the index stays. Once the plan was played, the index stands for the words.
 pub record IsExtensionPlanned (words : List ℕ) (old new : HeapIndex) (object : ℕ) (plan : List Action) : Type 0 where
   pub source : Source
   pub may : MayExtend words (record { object = object; source = source })

@@ -8,8 +8,8 @@ use Rattle.image_layout.specs.Blocks.{live_blocks}
 use Rattle.image_layout.specs.Checks.{Keeps}
 use Rattle.image_layout.specs.EntryRules.{KeepsEntryRules, object_rule}
 use Rattle.image_layout.specs.Owners.{OwnersAreApart}
-use Rattle.image_layout.specs.Objects.{ready_count, segment_of, pointer_after, entry_places}
-use Rattle.heap_palloc.specs.Calls.{KeepsHeapRules}
+use Rattle.image_layout.specs.Objects.{ready_count, segment_of, pointer_after, entry_places, entries}
+use Rattle.heap_palloc.specs.Calls.{KeepsHeapRules, OwnsBlock}
 use Rattle.heap_palloc.specs.Changes.{SameChoiceRead}
 use Rattle.heap_palloc.specs.Index.{HeapIndex, IsIndexOf}
 use Rattle.heap_palloc.specs.Lane.{mended_lane}
@@ -54,13 +54,15 @@ pub record IsObjectPlace (words : List ℕ) (object : ℕ) : Type 0 where
 abbrev pub begun : Transaction → Transaction
 begun transaction = record transaction { state = OPEN }
 
--- The object is open, and each other word is that of the base. So its entries stay, and its rule goes on to hold.
+-- The object is open, and each other word is that of the base. So its entries stay, its rule goes on to hold, and an
+-- entry that might be entered may be so still.
 pub record IsBegun (object : ℕ) (base words : List ℕ) : Type 0 where
   pub size : length words ≡ length base
   pub state : slice_index words (state_at object) ≡ OPEN
   pub others : (w : ℕ) → w ≢ state_at object → slice_index words w ≡ slice_index base w
   pub shows : (t : Transaction) → Shows base object t → Shows words object (begun t)
   pub is_object : HasObject words object
+  pub next : (nth : ℕ) (entry : Entry) → MayEnter base object nth entry → MayEnter words object nth entry
   pub goes_on : GoesOn object base words
 
 abbrev pub beginning : ℕ → Change
@@ -146,16 +148,20 @@ abbrev pub ShowsExtension : Extension → List ℕ → List ℕ → Type 0
 ShowsExtension e base image =
     IsUnextended base e (mended_lane e.object image) ⊎ IsExtended base e (mended_lane e.object image)
 
--- What the words after an extension show: one ready segment more, whose words are 0. It allocates the segment, unless the
--- object owned it. Mending the lane leaves them, the ready segments are blocks of the heap which share no word, and the next
--- extension may be planned.
+-- What the words after an extension show: one ready segment more, whose words are 0. It allocates the segment, unless
+-- the object owned it, and the pointer behind the ready ones owns it as a block. Mending the lane leaves them, and the
+-- ready segments are blocks of the heap which share no word. The next entry may be entered, and the next extension
+-- planned.
 pub record EndsExtension (e : Extension) (base words : List ℕ) : Type 0 where
   pub extended : IsExtended base e words
   pub allocates : HasNoNext base e.object
       → GainsOne (live_blocks base) (segment_block (new_segment e)) (live_blocks words)
   pub owned : ¬ HasNoNext base e.object → live_blocks words ≡ live_blocks base
+  pub owns : OwnsBlock words (pointer_after base e.object) (segment_block (new_segment e))
   pub mended : mended_lane e.object words ≡ words
   pub segments : HasSegments words e.object
+  pub next : HasObject base e.object → NoEntryFollowsZero base e.object → (entry : Entry) → IsSpelt entry
+      → MayEnter words e.object (length (entries base e.object)) entry
   pub again : (index : HeapIndex) → IsIndexOf words index → MayPlanExtension words index e.object
 
 -- what the source of a segment reads is the same: that it is a block of the heap, or what its allocation reads
@@ -163,8 +169,8 @@ abbrev pub SameSourceRead : Source → List ℕ → List ℕ → Type 0
 SameSourceRead (owned segment) old new = Contains (live_blocks new) (segment_block segment)
 SameSourceRead (allocated choice) old new = SameChoiceRead choice old new
 
--- What an extension reads is the same: the object's words and the lane's op. The rules of the heap and of the object go on
--- to hold, and the ready segments to be blocks of the heap.
+-- What an extension reads is the same: the object's words and the lane's op. The rules of the heap and of the object go
+-- on to hold, and the ready segments to be blocks of the heap.
 pub record SameExtensionRead (e : Extension) (old new : List ℕ) : Type 0 where
   pub object : KeepsObject old e.object new
   pub op : slice_index new (lane_op_at e.object) ≡ slice_index old (lane_op_at e.object)

@@ -28,7 +28,8 @@ pub record Shows (words : List ℕ) (object : ℕ) (transaction : Transaction) :
   pub commit_word : slice_index words (commit_word_at object) ≡ transaction.commit_word
   pub entries : entries_in words object ≡ transaction.entries
 
--- There is such an object, its rule holds, and its ready segments share no word with one another or with the fixed pages.
+-- There is such an object, its rule holds, and its ready segments share no word with one another or with the fixed
+-- pages.
 pub record HasObject (words : List ℕ) (object : ℕ) : Type 0 where
   pub number : object < 16
   pub size : 2048 ≤ length words
@@ -91,8 +92,8 @@ IsElsewhereOf words object (allocated choice) w =
 abbrev pub IsOutside : ℕ → ℕ → Type 0
 IsOutside segment w = (w < segment) ⊎ (segment + 256 ≤ w)
 
--- The object's rule holds, it has the state, the commit word and the entries as before, and each word that the extension
--- doesn't write stays.
+-- The object's rule holds, it has the state, the commit word and the entries as before, and each word that the
+-- extension doesn't write stays.
 pub record KeepsEntries (base : List ℕ) (e : Extension) (words : List ℕ) : Type 0 where
   pub size : length words ≡ length base
   pub rule : Keeps words (object_rule e.object)

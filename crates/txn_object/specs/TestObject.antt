@@ -14,8 +14,8 @@ pub record IsExtendable (d : Device) (index : HeapIndex) : Type 0 where
   pub none : entries d.cached 0 ≡ []
   pub clean : (w : ℕ) → IsClean d w
 
--- the first transaction object has so many ready segments and so many entries, which no word that is 0 stands before, and it
--- may be extended
+-- the first transaction object has so many ready segments and so many entries, which no word that is 0 stands before,
+-- and it may be extended
 pub record HasEntries (d : Device) (ready count : ℕ) : Type 0 where
   pub is_object : HasObject d.cached 0
   pub ready_is : ready_count d.cached 0 ≡ ready

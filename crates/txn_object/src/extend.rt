@@ -24,9 +24,9 @@ const READYING_ACTIONS: u32 = 256 + 33 + 3;
 
 /// Plans the extension of the session's transaction object by a segment of 255 entries.
 ///
-/// The segment is allocated through the session's lane, unless the object owns it already: an extension that was cut can
-/// leave it owned and not ready. The plan may be played by any session, where the words that it writes are clean. After an
-/// error the heap is as it was.
+/// The segment is allocated through the session's lane, unless the object owns it already: an extension that was cut
+/// can leave it owned and not ready. The plan may be played by any session, where the words that it writes are clean.
+/// After an error the heap is as it was.
 pub fn plan_extend<M: Memory>(
     alloc: Global,
     mem: &M,

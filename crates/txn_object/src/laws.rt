@@ -16,8 +16,8 @@ ghost use Rattle.txn_object.specs.Object.{nth_place, begin_parts, NoEntryFollows
 ghost use Rattle.txn_object.specs.Shown.{Transaction, Shows, HasObject, MayEnter};
 ghost use Rattle.txn_object.specs.Spared.{KeepsObject, SparesObject};
 
-/// A begin: at each cut the words are as before, or the object is open and its entries are as before. After its last action
-/// it is open.
+/// A begin: at each cut the words are as before, or the object is open and its entries are as before. After its last
+/// action it is open.
 pub fn begin_law()
     ensures survives { (object : ℕ) → Survives (beginning object) }
     ensures writes { (object w : ℕ) → IsTrue (footprint (plan_of (begin_parts object)) w) ↔ (w ≡ state_at object) }
@@ -30,8 +30,8 @@ pub fn begin_law()
         IsBeginBefore base object t parts → Shows (finished (begin_parts object ++ parts) base) object (begun t) }
 {}
 
-/// An entry: at each cut the words are as before, or the transaction has one entry more. After its last action it has it, at
-/// its place, and the next one may be entered.
+/// An entry: at each cut the words are as before, or the transaction has one entry more. After its last action it has
+/// it, at its place, and the next one may be entered.
 pub fn entry_law()
     ensures spelt { (entry : Entry) → IsSpelt entry → entry_of (entry_word entry) ≡ entry }
     ensures survives { (n : NewEntry) → Survives (entering n) }
@@ -47,8 +47,8 @@ pub fn entry_law()
         Shows (finished (entry_parts base n ++ parts) base) n.object (with_entry t n.entry) }
 {}
 
-/// An extension: the lane mended, each cut has the ready segments before it, or those after it and new words of 0; the entries
-/// stay. After its last action it is the segments after it.
+/// An extension: the lane mended, each cut has the ready segments before it, or those after it and new words of 0; the
+/// entries stay. After its last action it is the segments after it.
 pub fn extension_law()
     ensures survives { (e : Extension) → Survives (extending e) }
 
@@ -64,12 +64,13 @@ pub fn extension_law()
         object < OBJECTS → IsSound words → IsIndexOf words index → MayPlanExtension words index object }
 {}
 
-/// A retire, for a plan that ends with it: until its first part is fenced the words are the old ones or the object is idle,
-/// and from there on it is idle whatever its entries are. After its last part they and the commit word are 0.
+/// A retire, for a plan that ends with it: until its first part is fenced the words are the old ones or the object is
+/// idle, and from there on it is idle whatever its entries are. After its last part they and the commit word are 0.
 pub fn retire_law()
     ensures survives { (r : Retirement) → Survives (retiring r) }
 
-    // Where no fewer entries are cleared than the transaction has, none is left, and the next one may have its first entry.
+    // Where no fewer entries are cleared than the transaction has, none is left, and the next one may have its first
+    // entry.
     ensures shows { (r : Retirement) (old words : List ℕ) →
         ClearsAll old r → IsRetiredBy r old words → ClearsCommit old r → Shows words r.object no_transaction }
     ensures empty { (r : Retirement) (old words : List ℕ) (nth : ℕ) → ClearsAll old r → IsRetiredBy r old words →

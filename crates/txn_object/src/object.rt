@@ -1,5 +1,5 @@
 // The plans of a transaction on its object. Session k has object k - 1.
-ghost use Rattle.std.specs.Prelude.{ℕ, List, ◌≡◌, ◌+◌, ◌-◌, ◌^◌, ◌<◌, ◌≤◌, ◌||◌, ◌==◌, ◌++◌, min, not, take, length, if◌then◌else◌, IfOk, IsTrue};
+ghost use Rattle.std.specs.Prelude.{ℕ, List, ◌≡◌, ◌+◌, ◌-◌, ◌*◌, ◌^◌, ◌<◌, ◌≤◌, ◌||◌, ◌==◌, ◌++◌, min, not, take, length, if◌then◌else◌, IfOk, IsTrue};
 ghost use Rattle.std.specs.List.{range_with_len};
 ghost use Rattle.image_layout.specs.Checks.{Keeps};
 ghost use Rattle.image_layout.specs.EntryRules.{object_rule};
@@ -30,8 +30,8 @@ pub fn plan_begin(alloc: Global, session: u8) -> Result<Plan, NoMemory>
     Ok(plan)
 }
 
-/// Adds the part of 3 actions that makes an entry the one at place `nth` of the session's transaction, of which its object
-/// has the first 60 and each ready segment 255 more. It takes no memory.
+/// Adds the part of 3 actions that makes an entry the one at place `nth` of the session's transaction, of which its
+/// object has the first 60 and each ready segment 255 more. It takes no memory.
 pub fn push_entry<M: Memory>(plan: &mut Plan, mem: &M, session: u8, nth: u32, entry: Entry)
     requires first { 1 ≤ session }
     requires last { session ≤ 16 }
@@ -47,12 +47,13 @@ pub fn push_entry<M: Memory>(plan: &mut Plan, mem: &M, session: u8, nth: u32, en
     plan.push_store(entry_place(mem, session - 1, nth), entry.word());
 }
 
-/// Room that is enough for the actions that `push_retire` adds, for as many entries and, where `word` says so, the commit
-/// word: a store and at most one flush for each of them, a fence, and the 3 actions of the first part.
+/// Room that is enough for the actions that `push_retire` adds, for as many entries and, where `word` says so, the
+/// commit word: exactly a store and a flush for each of them, a fence, and the 3 actions of the first part.
 pub fn retire_room(entries: u32, word: bool) -> u32
     requires { entries ≤ 8220 }
-    ensures { (words : List ℕ) (object : ℕ) → entries ≤ length (entry_places words object) →
+    ensures enough { (words : List ℕ) (object : ℕ) → entries ≤ length (entry_places words object) →
         length (plan_of (retire_parts words object entries word)) ≤ result }
+    ensures exact { result ≡ 2 * (entries + (if word then 1 else 0)) + 4 }
 {
     STORE_ACTIONS + 2 * (entries + u32::from(word)) + 1
 }

@@ -6,8 +6,8 @@ ghost use Rattle.txn_object.specs.Calls.{MayPlanExtension};
 ghost use Rattle.txn_object.specs.Changes.{IsObjectOf};
 ghost use Rattle.txn_object.specs.Extension.{HasSegments};
 
-/// A transaction object has its segments, and its extension may be planned, whatever a power cut left half done: where the
-/// image keeps the rules that every image keeps, and its owner words are apart.
+/// A transaction object has its segments, and its extension may be planned, whatever a power cut left half done: where
+/// the image keeps the rules that every image keeps, and its owner words are apart.
 pub fn owned_segments_law()
     ensures segments { (words : List ℕ) (object : ℕ) → IsObjectOf words object → HasSegments words object }
     ensures extension { (words : List ℕ) (index : HeapIndex) (object : ℕ) → IsObjectOf words object →

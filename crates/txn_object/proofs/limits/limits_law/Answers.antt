@@ -1,7 +1,7 @@
-use Rattle.std.proofs.Common.{◌≡◌, ℕ, ◌+◌, ◌*◌, ◌≤◌, not, eqb, List, length, get_or, refl, arith}
+use Rattle.std.proofs.Common.{◌≡◌, ℕ, ◌≤◌, not, eqb, List, length, get_or, refl, arith}
 use Rattle.std.proofs.lemmas.List.{length-map}
 use Rattle.std.proofs.lemmas.List.Filters.{length-filter_both}
-use Rattle.image_layout.specs.Objects.{ready_count, entry_places, entries}
+use Rattle.image_layout.specs.Objects.{entry_places, entries}
 use Rattle.txn_object.specs.Entries.{entry_of}
 use Rattle.txn_object.specs.Object.{entries_in}
 use Rattle.txn_object.specs.Shown.{HasObject}

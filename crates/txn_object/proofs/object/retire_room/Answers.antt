@@ -25,5 +25,8 @@ room words object entries word bit le is = ⊎_elim
     by_word true set none = let most = some_room words object entries word le (inr (none, set)) in omega (arith, most, is)
     by_word false unset none = let all = retire_length_none words object entries word none unset in omega (arith, all)
 
-pub returns : goal.returns
-returns c = λ words object le. room words object c.args.entries c.args.word c.from.result le (let one = bit_is c.args.word in omega (arith, c.from.ensures, one))
+pub returns-clause-enough : goal.returns-clause-enough
+returns-clause-enough c = λ words object le. room words object c.args.entries c.args.word c.from.result le (let one = bit_is c.args.word in omega (arith, c.from.ensures, one))
+
+pub returns-clause-exact : goal.returns-clause-exact
+returns-clause-exact c = let one = bit_is c.args.word in omega (arith, c.from.ensures, one)

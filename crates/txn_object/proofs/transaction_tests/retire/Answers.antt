@@ -7,7 +7,7 @@ push_retire-requires-clause-there g c = all_there (g.M.Memory.device c.args.memo
 
 pub push_retire-requires-clause-room : goal.push_retire-requires-clause-room
 push_retire-requires-clause-room g c =
-    let most = c.retire_room.ensures (g.M.Memory.device c.args.memory.now).cached 0 (all_there (g.M.Memory.device c.args.memory.now) c.requires) in
+    let most = c.retire_room.ensures.enough (g.M.Memory.device c.args.memory.now).cached 0 (all_there (g.M.Memory.device c.args.memory.now) c.requires) in
     omega (arith, most, c.in_ok-plan.ensures.room)
 
 pub play_whole-requires-clause-planned : goal.play_whole-requires-clause-planned
