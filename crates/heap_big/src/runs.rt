@@ -69,8 +69,8 @@ impl Runs {
         Ok(index)
     }
 
-    // Reads the next page, behind free ones that aren't in the index yet, and gives those that aren't so behind it. They
-    // are put back together, where a page isn't free or the segment ends.
+    // Reads the next page, behind free ones that aren't in the index yet, and gives those that aren't so behind it.
+    // They are put back together, where a page isn't free or the segment ends.
     fn scan(&mut self, page: u16, descriptor: u64, inside: u64, pending: Run) -> Run
         requires well_formed { IsWellFormed self.old }
         requires within { page < self.old.page_count }

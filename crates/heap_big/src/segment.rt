@@ -22,8 +22,8 @@ fn ones_below(page: u32) -> u64
     if page < 64 { (1 << page) - 1 } else { u64::MAX }
 }
 
-/// The free runs of the segment that end where the run begins, and that begin where it ends. One that isn't there has no
-/// pages.
+/// The free runs of the segment that end where the run begins, and that begin where it ends. One that isn't there has
+/// no pages.
 pub(crate) fn neighbours(free: u64, run: Run) -> (Run, Run)
     requires in_segment { IsInSegment run }
     requires low { end_of run ≤ 8192 }

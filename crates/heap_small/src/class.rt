@@ -46,8 +46,8 @@ pub fn class_for(words: u32) -> Option<Class>
     if words > 256 {
         return None;
     }
-    // A slot of class `c` has 2^c lines of 8 words, numbered from 0: so the least class that holds the words is how many
-    // bits the number of their last line has.
+    // A slot of class `c` has 2^c lines of 8 words, numbered from 0: so the least class that holds the words is how
+    // many bits the number of their last line has.
     let last_line = (words - 1) / 8;
     Some(Class((u32::BITS - last_line.leading_zeros()) as u8))
 }

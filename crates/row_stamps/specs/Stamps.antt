@@ -1,5 +1,5 @@
--- The stamps of a row. One has the number of the commit that created the row, and the other that of the commit that ended
--- it; each is 0 where there is none. Commits are numbered from 1.
+-- The stamps of a row. One has the number of the commit that created the row, and the other that of the commit that
+-- ended it; each is 0 where there is none. Commits are numbered from 1.
 use Rattle.std.specs.Prelude.{◌≡◌, ◌⊎◌, ◌↔◌, ℕ, ◌+◌, ◌<◌, ◌≤◌, List, Some, Contains, slice_get}
 use Rattle.std.specs.List.{flat_map}
 

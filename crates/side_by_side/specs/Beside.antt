@@ -9,8 +9,8 @@ RestsOn c session P places base =
     (left : ℕ → ℕ) (words : List ℕ) → length words ≡ length base → AreSameAt places words base
     → P (without session left) words → c.reads base words
 
--- From any words that have P, and what the change reads of the base, each image that shows a cut of it has Q while actions
--- are left.
+-- From any words that have P, and what the change reads of the base, each image that shows a cut of it has Q while
+-- actions are left.
 abbrev pub CutsGive : Change → ℕ → (P Q : (ℕ → ℕ) → List ℕ → Type 0) → List ℕ → Type 0
 CutsGive c session P Q base =
     (left : ℕ → ℕ) (words image : List ℕ) → c.reads base words → P (without session left) words

@@ -1,4 +1,5 @@
-// The words of a session's transaction object in a stage image, and the parts of plans that change them. Session k has object k - 1.
+// The words of a session's transaction object in a stage image, and the parts of plans that change them. Session k has
+// object k - 1.
 ghost use Rattle.std.specs.Prelude.{◌≡◌, ◌+◌, ◌-◌, ◌^◌, ◌<◌, ◌≤◌, ◌||◌, ◌==◌, ◌++◌, not, if◌then◌else◌, length, IfOk, IsTrue};
 ghost use Rattle.pm_model.specs.Plans.{part_actions, plan_of, one_store};
 ghost use Rattle.stage_object.specs.Object.{entries_in, free_entries_in, begin_parts, entry_part, clear_part, clear_length, retire_parts, retire_length};
@@ -19,6 +20,7 @@ pub fn plan_begin(alloc: Global, session: u8) -> Result<Plan, NoMemory>
     ensures { IfOk result (λ plan. plan.left ≡ plan_of (begin_parts (session - 1))) }
 {
     let mut plan = Plan::with_room(alloc, STORE_ACTIONS)?;
+    // From here on the transaction is open: opening undoes what its entries name, unless its commit word is set.
     plan.push_store(object_state(session - 1), 1);
     Ok(plan)
 }
@@ -68,6 +70,7 @@ pub fn push_entry(plan: &mut Plan, session: u8, nth: u32, entry: Entry)
     ensures left { plan.new.left ≡ plan.old.left ++ part_actions (entry_part (session - 1) nth entry) }
     ensures spare { plan.new.spare + 3 ≡ plan.old.spare }
 {
+    // From here on the entry is the transaction's: what it names may be stored behind it.
     plan.push_store(entry_word(session - 1, nth as u8), entry.word());
 }
 
@@ -94,6 +97,7 @@ pub fn push_retire(plan: &mut Plan, session: u8, entries: u32, word: bool)
     ensures spare { plan.new.spare + retire_length entries word ≡ plan.old.spare }
 {
     let object = session - 1;
+    // The object is idle before its words are cleared: else opening would undo what it had no entry for any more.
     plan.push_store(object_state(object), 0);
     if entries > 0 || word {
         push_clear(plan, object, entries, word);

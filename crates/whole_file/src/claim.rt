@@ -41,8 +41,8 @@ pub enum ClaimError {
     NoMemory,
 }
 
-/// A file that will be written, as it was found: where it lies behind all links, and its advisory lock, where it is a regular
-/// file and the system gives one. The lock is held until the claim is dropped.
+/// A file that will be written, as it was found: where it lies behind all links, and its advisory lock, where it is a
+/// regular file and the system gives one. The lock is held until the claim is dropped.
 #[derive(Drop)]
 pub struct Claim {
     target: String,

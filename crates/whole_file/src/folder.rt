@@ -149,8 +149,8 @@ fn make_new<R: Files<File = File> + AllocGlobal>(rt: &R, path: &str) -> Result<(
     Err(ErrorKind::ResourceBusy.into())
 }
 
-/// Makes the new file with this name and takes its lock. None where another run has a file of this name. What a run that was
-/// killed has left there is removed first.
+/// Makes the new file with this name and takes its lock. None where another run has a file of this name. What a run
+/// that was killed has left there is removed first.
 fn make_spare<R: Files<File = File>>(rt: &R, name: &str) -> Result<Option<File>> {
     remove_leftover(rt, name);
     match File::create_new(rt, name) {

@@ -1,9 +1,9 @@
-//! A file that is replaced whole: its new bytes go to a new file beside it, are flushed to the disk, and take its place in
-//! one step. Until then the old file stays as it was, whatever fails.
+//! A file that is replaced whole: its new bytes go to a new file beside it, are flushed to the disk, and take its place
+//! in one step. Until then the old file stays as it was, whatever fails.
 //!
-//! Layer: the program's files, below `sofort_main` and beside `io_edge`. `Place` is a file in its folder, by the calls that
-//! a writer makes, and `WholeFile` is the writer over any place. `FolderFile` is the place of the system's files, and
-//! `Claim` the lock that is taken before anything is read.
+//! Layer: the program's files, below `sofort_main` and beside `io_edge`. `Place` is a file in its folder, by the calls
+//! that a writer makes, and `WholeFile` is the writer over any place. `FolderFile` is the place of the system's files,
+//! and `Claim` the lock that is taken before anything is read.
 //!
 //! Invariants:
 //! 1. what the path shows changes at `replace` alone, unless the file is written in place;

@@ -36,7 +36,8 @@ pub trait Place {
     fn stage(&self) -> Stage
         ensures { result ≡ stage self.now };
 
-    /// Makes an empty new file beside the file, which is open from then on. `Ok(false)` says that none may be made there.
+    /// Makes an empty new file beside the file, which is open from then on. `Ok(false)` says that none may be made
+    /// there.
     fn create(&mut self) -> Result<bool>
         requires closed { stage self.old ≡ Stage.Closed }
         ensures allowed { IfOk result (λ made. IfSome (allows self.old) (λ allowed. made ≡ allowed)) }

@@ -5,8 +5,8 @@ use std::alloc::{AllocError, Global};
 /// How many names there are for the new file beside a file.
 pub const SPARES: u8 = 4;
 
-/// The name of the new file beside the file with this path: the path, `.sofort-new` and the number as a digit. Another run
-/// at the same file takes the next number.
+/// The name of the new file beside the file with this path: the path, `.sofort-new` and the number as a digit. Another
+/// run at the same file takes the next number.
 pub fn spare_name(alloc: Global, path: &str, number: u8) -> Result<String, AllocError>
     requires { number < SPARES }
     ensures { IfOk result (λ name. string_bytes name ≡ path.now ++ codes ".sofort-new" ++ (48 + number) ∷ []) }

@@ -7,8 +7,9 @@ ghost use Rattle.whole_file.specs.Writers.{place_of, has_failed};
 use crate::{Place, Stage};
 use std::io::{ErrorKind, Result, Write};
 
-/// A writer that replaces a file whole. The file is touched at the first write at the earliest, and changes in one step, at
-/// the flush; only where no new file may be made beside it, it is emptied at the first write and written in place.
+/// A writer that replaces a file whole. The file is touched at the first write at the earliest, and changes in one
+/// step, at the flush; only where no new file may be made beside it, it is emptied at the first write and written in
+/// place.
 #[derive(Drop)]
 pub struct WholeFile<P> {
     place: P,
@@ -110,7 +111,8 @@ impl<P: Place> Write for WholeFile<P> {
         ensures bound { WritesAtMost result bytes.now }
         ensures bytes { WriteAppends (P.written (place_of self.old)) (P.written (place_of self.new)) result bytes.now }
 
-        // The file shows what it showed, unless it is written in place, and that is so only where no new file may be made.
+        // The file shows what it showed, unless it is written in place, and that is so only where no new file may be
+        // made.
         ensures whole { P.stage (place_of self.new) ≢ Stage.InPlace
             → P.shown (place_of self.new) ≡ P.shown (place_of self.old) }
         ensures refused { P.stage (place_of self.old) ≡ Stage.Closed → P.stage (place_of self.new) ≡ Stage.InPlace
@@ -134,7 +136,8 @@ impl<P: Place> Write for WholeFile<P> {
     fn flush(&mut self) -> Result<()>
         ensures bytes { Keeps (P.written (place_of self.old)) (P.written (place_of self.new)) }
 
-        // What was written to a new file is what the path shows; where that failed, the path shows it or what it showed.
+        // What was written to a new file is what the path shows; where that failed, the path shows it or what it
+        // showed.
         ensures replaced { OnOk result (P.stage (place_of self.old) ≡ Stage.Beside
             → P.shown (place_of self.new) ≡ P.written (place_of self.new)) }
         ensures one { (P.shown (place_of self.new) ≡ P.shown (place_of self.old))
