@@ -12,7 +12,7 @@ use Rattle.heap_palloc.specs.Parts.{Allocation}
 use Rattle.heap_palloc.specs.Law.{Shows, Allocates, Frees, slot_allocation, taking, taken, pages_allocation}
 use Rattle.heap_palloc.specs.Calls.{KeepsHeapRules, OwnsBlock}
 use Rattle.heap_palloc.specs.Choice.{Choice, in_page, on_new_page, in_run, choice_parts, choice_block, MayMake, Freed, of_slot, of_pages, freed_parts, MayRelease}
-use Rattle.heap_palloc.specs.Changes.{allocation, freeing, choice_lane, freed_lane, IsUnmade, IsMade, IsHeld, IsLetGo, KeepsChoiceFirst, KeepsFreedFirst, choice_owner, IsBeside, IsOther, allocated_words, released_words, ShowsAllocation, EndsAllocation, ShowsRelease, EndsRelease}
+use Rattle.heap_palloc.specs.Changes.{allocating, freeing, choice_lane, freed_lane, IsUnmade, IsMade, IsHeld, IsLetGo, KeepsChoiceFirst, KeepsFreedFirst, choice_owner, IsBeside, IsOther, allocated_words, released_words, ShowsAllocation, EndsAllocation, ShowsRelease, EndsRelease}
 use Rattle.heap_palloc.proofs.Stages.{mended-idle}
 use Rattle.heap_palloc.proofs.Changes.{change_settles}
 use Rattle.heap_palloc.proofs.FirstWords.{taken_first, freed_first}
@@ -106,7 +106,7 @@ choice_ends (in_run r) base may =
       rules = λ rules. choice_rules base (in_run r) rules may;
     }
 
-pub allocation_holds : (choice : Choice) → HoldsOnWords (allocation choice)
+pub allocation_holds : (choice : Choice) → HoldsOnWords (allocating choice)
 allocation_holds choice = record {
   plan = λ base may. choice_plan base choice may;
   cuts = λ base may. choice_cuts choice base may;

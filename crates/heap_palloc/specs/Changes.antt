@@ -137,8 +137,8 @@ pub record EndsAllocation (choice : Choice) (base words : List ℕ) : Type 0 whe
   pub mended : mended_lane (choice_lane choice) words ≡ words
   pub rules : KeepsHeapRules base → KeepsHeapRules words
 
-abbrev pub allocation : Choice → Change
-allocation choice = record {
+abbrev pub allocating : Choice → Change
+allocating choice = record {
   asks = λ base. MayMake base choice;
   parts = λ base. choice_parts base choice;
   shows = ShowsAllocation choice;

@@ -7,7 +7,7 @@ ghost use Rattle.heap_palloc.specs.Parts.{Allocation, allocation_parts, freeing_
 ghost use Rattle.heap_palloc.specs.Shown.{MayAllocate, MayFree, IsAtomic};
 ghost use Rattle.heap_palloc.specs.Calls.{KeepsHeapRules, OwnsBlock};
 ghost use Rattle.heap_palloc.specs.Choice.{Choice, choice_block, MayMake, Freed, MayRelease};
-ghost use Rattle.heap_palloc.specs.Changes.{allocation, freeing, choice_owner, IsBeside, IsOther, allocated_words, released_words};
+ghost use Rattle.heap_palloc.specs.Changes.{allocating, freeing, choice_owner, IsBeside, IsOther, allocated_words, released_words};
 
 /// A law for proofs: by words, the log of a lane makes an allocation and a freeing atomic.
 pub fn lane_law()
@@ -30,7 +30,7 @@ pub fn lane_law()
 /// | 1 | with the block | its pointer | the mending of the lane: the block is allocated | 1 |
 /// | 0 | with the block | its pointer | nobody: the block is allocated | 0 |
 pub fn allocation_law()
-    ensures { (choice : Choice) → Survives (allocation choice) }
+    ensures { (choice : Choice) → Survives (allocating choice) }
 {}
 
 /// A law for proofs: a freeing, of whichever block. Once its lane is mended, each cut shows the live blocks before it

@@ -1,3 +1,4 @@
+pub mod ChangesHold
 pub mod Clears
 pub mod EntryWords
 pub mod OneStore

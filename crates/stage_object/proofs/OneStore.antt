@@ -1,17 +1,12 @@
 -- A begin and an entry: what the object shows after the one store that each of them is.
-use Rattle.std.proofs.Common.{◌≡◌, ◌⊎◌, inl, inr, ⊎_elim, ℕ, ◌+◌, List, [], ◌∷◌, ◌++◌, set, sym, ◌∙◌, ap, subst, arith}
+use Rattle.std.proofs.Common.{◌≡◌, ⊎_elim, ℕ, ◌+◌, List, [], ◌∷◌, ◌++◌, set, sym, ◌∙◌, ap, arith}
 use Rattle.std.proofs.lemmas.List.{get_or-set_same, get_or-set_other}
 use Rattle.std.proofs.lemmas.Bool.{cases_eq}
-use Rattle.pm_model.specs.declared.action.Action.{Action}
-use Rattle.pm_model.specs.Device.{Device}
 use Rattle.image_layout.specs.Fixed.{state_at, commit_word_at, entry_at}
-use Rattle.pm_model.specs.Plans.{Play}
 use Rattle.txn_object.specs.declared.entry.Entry.{Entry}
 use Rattle.txn_object.specs.Entries.{entry_word, entry_of}
-use Rattle.txn_object.specs.Shown.{IsCut}
-use Rattle.txn_object.proofs.Entering.{cut-one_store, ended-one_store, entry_word-set, entry_of-entry_word}
-use Rattle.stage_object.specs.Object.{begin_parts, entry_part}
-use Rattle.stage_object.specs.Shown.{Transaction, Shows, HasObject, NoEntryFollowsZero, MayEnter}
+use Rattle.txn_object.proofs.Entering.{entry_word-set, entry_of-entry_word}
+use Rattle.stage_object.specs.Shown.{Transaction, Shows, HasObject, NoEntryFollowsZero, MayAddEntry}
 use Rattle.stage_object.proofs.EntryWords.{word_at, entries_in-same, entries_in-set, entries_in-append, entries_in-rest}
 
 -- ── a begin ──
@@ -23,21 +18,9 @@ begin_after object transaction base is shows = record {
   entries = entries_in-same base (set base (state_at object) 1) object (λ nth lt. get_or-set_other base (state_at object) (entry_at object nth) 1 0 (λ e. omega (arith, e))) ∙ shows.entries;
 }
 
-pub begin_shows : (object : ℕ) (transaction : Transaction) (play : Play) (left : List Action) (d : Device) (image base : List ℕ) → IsCut play left d image base → play.parts ≡ begin_parts object → HasObject base object → Shows base object transaction
-    → (Shows image object transaction) ⊎ (Shows image object (record transaction { state = 1 }))
-begin_shows object transaction play left d image base cut is has shows = ⊎_elim
-    (λ (old : image ≡ base). inl (subst (λ (l : List ℕ). Shows l object transaction) (sym old) shows))
-    (λ (new : image ≡ set base (state_at object) 1). inr (subst (λ (l : List ℕ). Shows l object (record transaction { state = 1 })) (sym new) (begin_after object transaction base has shows)))
-    (cut-one_store (state_at object) 1 play d image base is left cut)
-
-pub begin_ends : (object : ℕ) (transaction : Transaction) (play : Play) (d : Device) (image base : List ℕ) → IsCut play [] d image base → play.parts ≡ begin_parts object → HasObject base object → Shows base object transaction
-    → Shows image object (record transaction { state = 1 })
-begin_ends object transaction play d image base cut is has shows =
-    subst (λ (l : List ℕ). Shows l object (record transaction { state = 1 })) (sym (ended-one_store (state_at object) 1 play d image base is cut)) (begin_after object transaction base has shows)
-
 -- ── an entry ──
 
-pub entry_after : (object nth : ℕ) (entry : Entry) (transaction : Transaction) (base : List ℕ) → MayEnter base object nth entry → Shows base object transaction
+pub entry_after : (object nth : ℕ) (entry : Entry) (transaction : Transaction) (base : List ℕ) → MayAddEntry base object nth entry → Shows base object transaction
     → Shows (set base (entry_at object nth) (entry_word entry)) object (record transaction { entries = transaction.entries ++ entry ∷ [] })
 entry_after object nth entry transaction base may shows =
     let new = set base (entry_at object nth) (entry_word entry) in record {
@@ -50,7 +33,7 @@ entry_after object nth entry transaction base may shows =
           ∙ ap (λ (e : Entry). transaction.entries ++ e ∷ []) (entry_of-entry_word entry may.table may.row);
     }
 
-pub entry_packed : (object nth : ℕ) (entry : Entry) (base : List ℕ) → MayEnter base object nth entry → NoEntryFollowsZero (set base (entry_at object nth) (entry_word entry)) object
+pub entry_packed : (object nth : ℕ) (entry : Entry) (base : List ℕ) → MayAddEntry base object nth entry → NoEntryFollowsZero (set base (entry_at object nth) (entry_word entry)) object
 entry_packed object nth entry base may k lt is = ⊎_elim
     (λ (here : k ≡ nth). absurd (entry_word-set entry (sym put ∙ ap (λ (n : ℕ). word_at (set base (entry_at object nth) (entry_word entry)) object n) (sym here) ∙ is)))
     (λ apart. ⊎_elim
@@ -65,19 +48,3 @@ entry_packed object nth entry base may k lt is = ⊎_elim
 
     kept : (j : ℕ) → (j ≡ nth → ⊥) → word_at (set base (entry_at object nth) (entry_word entry)) object j ≡ word_at base object j
     kept j apart = get_or-set_other base (entry_at object nth) (entry_at object j) (entry_word entry) 0 (λ e. apart (omega (arith, e)))
-
-pub entry_shows : (object nth : ℕ) (entry : Entry) (transaction : Transaction) (play : Play) (left : List Action) (d : Device) (image base : List ℕ)
-    → IsCut play left d image base → play.parts ≡ entry_part object nth entry ∷ [] → MayEnter base object nth entry → Shows base object transaction
-    → (Shows image object transaction) ⊎ (Shows image object (record transaction { entries = transaction.entries ++ entry ∷ [] }))
-entry_shows object nth entry transaction play left d image base cut is may shows = ⊎_elim
-    (λ (old : image ≡ base). inl (subst (λ (l : List ℕ). Shows l object transaction) (sym old) shows))
-    (λ (new : image ≡ set base (entry_at object nth) (entry_word entry)).
-    inr (subst (λ (l : List ℕ). Shows l object (record transaction { entries = transaction.entries ++ entry ∷ [] })) (sym new) (entry_after object nth entry transaction base may shows)))
-    (cut-one_store (entry_at object nth) (entry_word entry) play d image base is left cut)
-
-pub entry_ends : (object nth : ℕ) (entry : Entry) (transaction : Transaction) (play : Play) (d : Device) (image base : List ℕ)
-    → IsCut play [] d image base → play.parts ≡ entry_part object nth entry ∷ [] → MayEnter base object nth entry → Shows base object transaction
-    → Shows image object (record transaction { entries = transaction.entries ++ entry ∷ [] })
-entry_ends object nth entry transaction play d image base cut is may shows =
-    subst (λ (l : List ℕ). Shows l object (record transaction { entries = transaction.entries ++ entry ∷ [] })) (sym (ended-one_store (entry_at object nth) (entry_word entry) play d image base is cut))
-    (entry_after object nth entry transaction base may shows)

@@ -27,13 +27,18 @@ NoEntryFollowsZero words object =
     (nth : ℕ) → nth + 1 < 60 → slice_index words (entry_at object nth) ≡ 0 → slice_index words (entry_at object (nth + 1)) ≡ 0
 
 -- the object has so many entries, and this one may be the next
-pub record MayEnter (words : List ℕ) (object nth : ℕ) (entry : Entry) : Type 0 where
+pub record MayAddEntry (words : List ℕ) (object nth : ℕ) (entry : Entry) : Type 0 where
   pub is_object : HasObject words object
   pub count : length (entries_in words object) ≡ nth
   pub room : nth < 60
   pub packed : NoEntryFollowsZero words object
   pub table : entry.table < 2 ^ 24
   pub row : entry.row < 2 ^ 32
+
+-- the entry words of the object are the same
+abbrev pub HasSameEntries : List ℕ → List ℕ → ℕ → Type 0
+HasSameEntries old new object =
+    (nth : ℕ) → nth < 60 → slice_index new (entry_at object nth) ≡ slice_index old (entry_at object nth)
 
 -- the words that the second part of a retire clears: the first entries and, where it is set, the commit word
 abbrev pub IsCleared : ℕ → ℕ → Bool → ℕ → Type 0

@@ -19,7 +19,7 @@ use Rattle.txn_object.specs.Changes.{IsSpelt, extended_words}
 use Rattle.txn_object.specs.Entries.{entry_of}
 use Rattle.txn_object.specs.Extension.{Extension, new_segment, segment_block, HasSegments, MayExtend}
 use Rattle.txn_object.specs.Object.{entries_in, nth_word, NoEntryFollowsZero}
-use Rattle.txn_object.specs.Shown.{HasObject, MayEnter, IsExtended}
+use Rattle.txn_object.specs.Shown.{HasObject, MayAddEntry, IsExtended}
 use Rattle.txn_object.proofs.Entering.{state_frame, state_object, state_shows}
 use Rattle.txn_object.proofs.Extending.{entry_untouched}
 use Rattle.txn_object.proofs.Frames.{frame_places, entry_not_fixed}
@@ -29,7 +29,7 @@ use Rattle.txn_object.proofs.Whole.{apart_from_blocks, extension_shown}
 
 -- ── a begin ──
 
-module _ (base : List ℕ) (object nth : ℕ) (entry : Entry) (may : MayEnter base object nth entry) where
+module _ (base : List ℕ) (object nth : ℕ) (entry : Entry) (may : MayAddEntry base object nth entry) where
   abbrev opened : List ℕ
   opened = set base (state_at object) 1
 
@@ -42,7 +42,7 @@ module _ (base : List ℕ) (object nth : ℕ) (entry : Entry) (may : MayEnter ba
       ap (λ (places : List ℕ). get_or opened (get_or places k 0) 0) places_stay
       ∙ get_or-set_other base (state_at object) (get_or (entry_places base object) k 0) 1 0 (entry_not_fixed base object may.is_object k (state_at object) lt (omega (arith, number)) (inl (omega arith)))
 
-  pub begun_enters : MayEnter opened object nth entry
+  pub begun_enters : MayAddEntry opened object nth entry
   begun_enters = record {
     is_object = state_object base object 1 may.is_object (omega arith);
     count =
@@ -114,7 +114,7 @@ module _ (base : List ℕ) (e : Extension) (may : MayExtend base e) (page : ℕ)
           ∙ is.new_words (new_segment e + 1 + k) (omega arith) (omega (arith, small))
 
   pub extended_enters : HasSegments words e.object → HasObject base e.object → NoEntryFollowsZero base e.object → (entry : Entry) → IsSpelt entry
-      → MayEnter words e.object (length (objects.entries base e.object)) entry
+      → MayAddEntry words e.object (length (objects.entries base e.object)) entry
   extended_enters segments has packed entry spelt =
       let size = is.keeps.size in
       let most = has.size in
@@ -139,7 +139,7 @@ module _ (base : List ℕ) (e : Extension) (may : MayExtend base e) (page : ℕ)
   }
 
 pub enters_after : (e : Extension) (base : List ℕ) (may : MayExtend base e) → HasObject base e.object → NoEntryFollowsZero base e.object → (entry : Entry) → IsSpelt entry
-    → MayEnter (extended_words base e) e.object (length (objects.entries base e.object)) entry
+    → MayAddEntry (extended_words base e) e.object (length (objects.entries base e.object)) entry
 enters_after e base may has packed entry spelt =
     let (page, stands) = source_stands base e.object may.segments.rules e.source may.source in
     let shown = extension_shown base e may in

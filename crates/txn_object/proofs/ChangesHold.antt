@@ -16,11 +16,11 @@ use Rattle.heap_palloc.specs.Choice.{IsThrough}
 use Rattle.heap_palloc.proofs.Rereading.{choice_stable}
 use Rattle.txn_object.specs.declared.entry.Entry.{Entry}
 use Rattle.txn_object.specs.Calls.{MayPlanExtension}
-use Rattle.txn_object.specs.Changes.{SameObjectRead, GoesOn, IsBegun, beginning, IsSpelt, NewEntry, IsEntered, entering, extended_words, EndsExtension, SameSourceRead, SameExtensionRead, extending, Retirement, MayRetire, ShowsRetire, ClearsAll, ClearsCommit, no_transaction, retiring, IsObjectOf, IsObjectPlace}
+use Rattle.txn_object.specs.Changes.{SameObjectRead, GoesOn, IsBegun, beginning, IsSpelt, NewEntry, IsEntered, entering, extended_words, EndsExtension, SameSourceRead, SameExtensionRead, extending, Retirement, MayBeRetired, ShowsRetire, ClearsAll, ClearsCommit, no_transaction, retiring, IsObjectOf, IsObjectPlace}
 use Rattle.txn_object.specs.Entries.{entry_word, entry_of}
 use Rattle.txn_object.specs.Extension.{Source, owned, allocated, Extension, new_segment, source_parts, readying_parts, extension_parts, segment_block, HasSegments, MayTake, MayExtend}
 use Rattle.txn_object.specs.Object.{entries_in, entry_part, nth_place, clear_part, retire_parts}
-use Rattle.txn_object.specs.Shown.{Shows, HasObject, MayEnter, IsRetiring, IsRetired}
+use Rattle.txn_object.specs.Shown.{Shows, HasObject, MayAddEntry, IsRetiring, IsRetired}
 use Rattle.txn_object.specs.Spared.{its_pointer}
 use Rattle.txn_object.proofs.After.{begun_enters, enters_after, owns_after}
 use Rattle.txn_object.proofs.Entering.{state_object, state_shows, entry_object, entry_shows, entry_packed}
@@ -66,7 +66,7 @@ begin_holds object = record {
 
 -- ── an entry ──
 
-entry_is : (object nth : ℕ) (entry : Entry) (base : List ℕ) → MayEnter base object nth entry → IsEntered (record { object = object; nth = nth; entry = entry }) base (set base (get_or (entry_places base object) nth 0) (entry_word entry))
+entry_is : (object nth : ℕ) (entry : Entry) (base : List ℕ) → MayAddEntry base object nth entry → IsEntered (record { object = object; nth = nth; entry = entry }) base (set base (get_or (entry_places base object) nth 0) (entry_word entry))
 entry_is object nth entry base may = record {
   size = length-set base (get_or (entry_places base object) nth 0) (entry_word entry);
   word = get_or-set_same base (get_or (entry_places base object) nth 0) (entry_word entry) 0 (entry_in base object may.is_object nth may.room);
@@ -82,8 +82,8 @@ entry_is object nth entry base may = record {
   };
 }
 
-entry_stable : (object nth : ℕ) (entry : Entry) (old new : List ℕ) → SameObjectRead object old new → MayEnter old object nth entry
-    → MayEnter new object nth entry × ((entry_part new object nth entry ∷ []) ≡ (entry_part old object nth entry ∷ []))
+entry_stable : (object nth : ℕ) (entry : Entry) (old new : List ℕ) → SameObjectRead object old new → MayAddEntry old object nth entry
+    → MayAddEntry new object nth entry × ((entry_part new object nth entry ∷ []) ≡ (entry_part old object nth entry ∷ []))
 entry_stable object nth entry old new same may = (
   record {
     is_object = keeps_object old new object same.keeps same.last may.is_object;
@@ -178,7 +178,7 @@ extension_holds e = record {
 
 -- ── a retire ──
 
-module _ (r : Retirement) (base : List ℕ) (may : MayRetire base r) where
+module _ (r : Retirement) (base : List ℕ) (may : MayBeRetired base r) where
   retire_is_object : (image : List ℕ) → IsRetiring base r.object r.entries r.word image → HasObject image r.object
   retire_is_object image is = kept_object base image r.object may.is_object (retiring_same base r.object r.entries r.word may.is_object may.most image is)
 
@@ -205,8 +205,8 @@ module _ (r : Retirement) (base : List ℕ) (may : MayRetire base r) where
   retire_cuts = each_cut-map (λ image. (image ≡ base) ⊎ IsRetiring base r.object r.entries r.word image) (ShowsRetire r base) (retire_parts base r.object r.entries r.word) base
       retire_cut (retire_each base r.object r.entries r.word may.is_object may.most)
 
-retire_stable : (r : Retirement) (old new : List ℕ) → SameObjectRead r.object old new → MayRetire old r
-    → MayRetire new r × (retire_parts new r.object r.entries r.word ≡ retire_parts old r.object r.entries r.word)
+retire_stable : (r : Retirement) (old new : List ℕ) → SameObjectRead r.object old new → MayBeRetired old r
+    → MayBeRetired new r × (retire_parts new r.object r.entries r.word ≡ retire_parts old r.object r.entries r.word)
 unfolding clear_part
 retire_stable r old new same may =
     let places = keeps_places old new r.object same.keeps in (
@@ -234,7 +234,7 @@ module _ (r : Retirement) (old words : List ℕ) (clears : ClearsAll old r) (ret
   pub retired_empty : (nth : ℕ) → nth < length (entry_places old r.object) → get_or words (nth_place old r.object nth) 0 ≡ 0
   retired_empty nth lt = retire_free old r.object r.entries r.word clears.may.is_object clears.may.most words retired few clears.packed nth lt
 
-  pub retired_begins : (entry : Entry) → IsSpelt entry → MayEnter words r.object 0 entry
+  pub retired_begins : (entry : Entry) → IsSpelt entry → MayAddEntry words r.object 0 entry
   retired_begins entry spelt = retire_begins old r.object r.entries r.word clears.may.is_object clears.may.most words entry retired clears.all clears.packed spelt.table spelt.row
 
 -- ── in which images there are such objects ──

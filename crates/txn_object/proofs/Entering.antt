@@ -1,49 +1,19 @@
 -- A begin and an entry: what the object shows after the one store that each of them is.
-use Rattle.std.proofs.Common.{◌≡◌, ◌≢◌, ◌⊎◌, inl, inr, ⊎_elim, ℕ, zero, suc, ◌+◌, ◌/◌, ◌%◌, ◌^◌, ◌<◌, ◌≤◌, true, cond, eqb, List, [], ◌∷◌, ◌++◌, length, map, get_or, set, refl, sym, ◌∙◌, ap, subst, arith}
+use Rattle.std.proofs.Common.{◌≡◌, ◌≢◌, ◌⊎◌, inl, inr, ⊎_elim, ℕ, zero, suc, ◌+◌, ◌/◌, ◌%◌, ◌^◌, ◌<◌, ◌≤◌, cond, eqb, List, [], ◌∷◌, ◌++◌, length, map, get_or, set, refl, sym, ◌∙◌, ap, subst, arith}
 use Rattle.std.proofs.lemmas.List.{get_or-set_same, get_or-set_other, length-set, length-map, get_or-map, map-append}
 use Rattle.std.proofs.lemmas.Bool.{cases_eq, cond-true, cond-false, eq-eqb, ne_eqb}
-use Rattle.pm_model.specs.declared.action.Action.{Action}
-use Rattle.pm_model.specs.Device.{Device, IsClean}
 use Rattle.image_layout.specs.Fixed.{state_at, commit_word_at, entry_at, ready_at, last_at}
-use Rattle.pm_model.specs.Plans.{Play, one_store, plan_of, footprint, finished, EachCut}
 use Rattle.image_layout.specs.Objects.{segment_pointer_at, entry_places}
-use Rattle.pm_model.proofs.Cuts.{one_store-cut}
-use Rattle.pm_model.proofs.PlanLaw.{plan_survives_cuts, plan_ended_image, plan_ends}
-use Rattle.std.proofs.lemmas.Bool.{or_left}
 use Rattle.txn_object.specs.declared.entry.Entry.{Entry}
 use Rattle.txn_object.specs.declared.entry.EntryKind.{EntryKind}
 use Rattle.txn_object.specs.declared.entry.EntryKind.TheVariants.{Created, Ended}
 use Rattle.txn_object.specs.Entries.{kind_number, entry_word, entry_of}
 use Rattle.txn_object.specs.Object.{NoEntryFollowsZero}
-use Rattle.txn_object.specs.Shown.{Transaction, Shows, HasObject, MayEnter, IsCut}
+use Rattle.txn_object.specs.Shown.{Transaction, Shows, HasObject, MayAddEntry}
 use Rattle.txn_object.proofs.Runs.{set_words, set-no, set-yes}
 use Rattle.txn_object.proofs.Walk.{words_at}
 use Rattle.txn_object.proofs.Rule.{state_ok}
 use Rattle.txn_object.proofs.Frames.{SameFrame, frame_places, commit_stays, frame_object, pointer_not_low, entry_not_fixed, entry_not_pointer, entry_in, entries_differ}
-
--- ── a plan of one store ──
-
-module _ (place value : ℕ) (play : Play) (d : Device) (image base : List ℕ) (is : play.parts ≡ one_store place value ∷ []) where
-  -- at each moment of the plan
-  pub cut-one_store : (left : List Action) → IsCut play left d image base → (image ≡ base) ⊎ (image ≡ set base place value)
-  cut-one_store left cut =
-      plan_survives_cuts (λ i. (i ≡ base) ⊎ (i ≡ set base place value)) play cut.played left d image base cut.playing cut.left_by cut.back
-      (subst (λ (parts : List (List Action)). EachCut (λ i. (i ≡ base) ⊎ (i ≡ set base place value)) parts base) (sym is) (λ i between. one_store-cut place value base i between, inr refl))
-
-  -- and after its last action
-  pub ended-one_store : IsCut play [] d image base → image ≡ set base place value
-  ended-one_store cut = plan_ended_image play cut.played d image base cut.playing cut.left_by cut.back ∙ ap (λ (parts : List (List Action)). finished parts base) is
-
-  pub others-one_store : (left : List Action) (w : ℕ) → IsCut play left d image base → w ≢ place → get_or image w 0 ≡ get_or base w 0
-  others-one_store left w cut apart = ⊎_elim
-      (λ old. ap (λ (l : List ℕ). get_or l w 0) old)
-      (λ new. ap (λ (l : List ℕ). get_or l w 0) new ∙ get_or-set_other base place w value 0 apart)
-      (cut-one_store left cut)
-
-  pub clean-one_store : IsCut play [] d image base → IsClean d place
-  clean-one_store cut =
-      (plan_ends play cut.played d cut.playing).clean place
-      (cut.playing.playable.within place (subst (λ (parts : List (List Action)). footprint (plan_of parts) place ≡ true) (sym is) (or_left (eqb place place) _ (eq-eqb place place refl))))
 
 -- ── lists of entry words ──
 
@@ -180,7 +150,7 @@ entry_of-entry_word entry table row =
     let rows : word % 2 ^ 32 ≡ entry.row = omega (arith, table, row) in
     entry-same (cond (eqb (word / 2 ^ 56) 1) Created Ended) entry.kind (word / 2 ^ 32 % 2 ^ 24) entry.table (word % 2 ^ 32) entry.row (kind-spelt entry.kind (word / 2 ^ 56) kinds) tables rows
 
-module _ (base : List ℕ) (object nth : ℕ) (entry : Entry) (may : MayEnter base object nth entry) where
+module _ (base : List ℕ) (object nth : ℕ) (entry : Entry) (may : MayAddEntry base object nth entry) where
   abbrev place : ℕ
   place = get_or (entry_places base object) nth 0
 

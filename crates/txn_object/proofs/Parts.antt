@@ -13,7 +13,7 @@ use Rattle.txn_object.specs.Entries.{entry_word, entry_of}
 use Rattle.txn_object.specs.Object.{entries_in, begin_parts, entry_part, retire_parts, NoEntryFollowsZero}
 use Rattle.txn_object.specs.Extension.{HasSegments}
 use Rattle.txn_object.specs.Calls.{MayPlanExtension}
-use Rattle.txn_object.specs.Shown.{Transaction, Shows, HasObject, MayEnter, IsCleared, IsRetiring, IsRetired}
+use Rattle.txn_object.specs.Shown.{Transaction, Shows, HasObject, MayAddEntry, IsCleared, IsRetiring, IsRetired}
 use Rattle.txn_object.specs.Spared.{SparesObject}
 use Rattle.txn_object.proofs.Rule.{state_ok, commit_ok}
 use Rattle.txn_object.proofs.Frames.{frame_places, entry_not_fixed}
@@ -64,7 +64,7 @@ module _ (base : List ℕ) (object : ℕ) (has : HasObject base object) where
 
 -- ── an entry ──
 
-module _ (base : List ℕ) (object nth : ℕ) (entry : Entry) (may : MayEnter base object nth entry) where
+module _ (base : List ℕ) (object nth : ℕ) (entry : Entry) (may : MayAddEntry base object nth entry) where
   abbrev entered : List ℕ
   entered = set base (get_or (entry_places base object) nth 0) (entry_word entry)
 
@@ -98,7 +98,7 @@ module _ (base : List ℕ) (object nth : ℕ) (entry : Entry) (may : MayEnter ba
       let count = may.count in omega (arith, now, was, one, sum, count)
 
   -- so the next entry may be the next one
-  pub entry_next : (other : Entry) → nth + 1 < length (entry_places base object) → other.table < 2 ^ 24 → other.row < 2 ^ 32 → MayEnter entered object (nth + 1) other
+  pub entry_next : (other : Entry) → nth + 1 < length (entry_places base object) → other.table < 2 ^ 24 → other.row < 2 ^ 32 → MayAddEntry entered object (nth + 1) other
   entry_next other lt table row = record {
     is_object = entry_object base object nth entry may;
     count = entry_count;
@@ -171,7 +171,7 @@ module _ (base : List ℕ) (object entries : ℕ) (word : Bool) (has : HasObject
   retire_goes_on index may = retire_keeps (λ image. MayPlanExtension image index object) may (λ image same. kept_extension base image object has same index may)
 
   -- the object is as one before its first entry
-  pub retire_begins : (words : List ℕ) (entry : Entry) → IsRetired base object entries word words → length (entries_in base object) ≤ entries → NoEntryFollowsZero base object → entry.table < 2 ^ 24 → entry.row < 2 ^ 32 → MayEnter words object 0 entry
+  pub retire_begins : (words : List ℕ) (entry : Entry) → IsRetired base object entries word words → length (entries_in base object) ≤ entries → NoEntryFollowsZero base object → entry.table < 2 ^ 24 → entry.row < 2 ^ 32 → MayAddEntry words object 0 entry
   retire_begins words entry retired few packed table row =
       let count = length-map (objects.entries base object) entry_of in
       let most : length (objects.entries base object) ≤ entries = omega (arith, count, few) in

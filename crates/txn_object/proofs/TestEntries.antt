@@ -13,7 +13,7 @@ use Rattle.txn_object.specs.declared.entry.Entry.{Entry}
 use Rattle.txn_object.specs.declared.entry.EntryKind.TheVariants.{Created}
 use Rattle.txn_object.specs.Entries.{entry_word, entry_of}
 use Rattle.txn_object.specs.Object.{begin_parts, entry_part, retire_parts, NoEntryFollowsZero}
-use Rattle.txn_object.specs.Shown.{HasObject, MayEnter}
+use Rattle.txn_object.specs.Shown.{HasObject, MayAddEntry}
 use Rattle.txn_object.specs.Calls.{MayPlanExtension}
 use Rattle.txn_object.specs.TestObject.{IsExtendable, HasEntries}
 use Rattle.txn_object.proofs.Rule.{state_ok}
@@ -82,7 +82,7 @@ pub places_are : (d : Device) (ready count : ℕ) → HasEntries d ready count �
 places_are d ready count is = let all = length-entry_places d.cached 0 in let n = is.ready_is in omega (arith, all, n)
 
 module _ (d : Device) (ready nth : ℕ) (entry : Entry) (is : HasEntries d ready nth) (lt : nth < 60 + 255 * ready) (table : entry.table < 2 ^ 24) (row : entry.row < 2 ^ 32) where
-  may_enter : MayEnter d.cached 0 nth entry
+  may_enter : MayAddEntry d.cached 0 nth entry
   may_enter = record {
     is_object = is.is_object;
     count = is.count_is;
@@ -181,7 +181,7 @@ module _ (d : Device) (is : HasEntries d 32 8220) where
       let size = length-map (entries d.cached 0) entry_of in
       let count = is.count_is in
       let entry : Entry = record { kind = Created; table = 0; row = 0 } in
-      let begins : MayEnter (finished (retire_parts d.cached 0 8220 true) d.cached) 0 0 (record { kind = Created; table = 0; row = 0 }) =
+      let begins : MayAddEntry (finished (retire_parts d.cached 0 8220 true) d.cached) 0 0 (record { kind = Created; table = 0; row = 0 }) =
       retire_begins d.cached 0 8220 true is.is_object all_there (finished (retire_parts d.cached 0 8220 true) d.cached) (record { kind = Created; table = 0; row = 0 }) ends (omega (arith, size, count)) is.packed (omega arith) (omega arith) in
       record {
         is_object = subst (λ (l : List ℕ). HasObject l 0) (sym words) begins.is_object;

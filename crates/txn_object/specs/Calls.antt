@@ -52,10 +52,13 @@ abbrev pub extend_error : AllocError → ExtendError
 extend_error (HeapFull need largest) = Full need largest
 extend_error HeapNoMemory = NoMemory
 
--- the heap has no room for a segment that the object doesn't own
-abbrev pub HasNoRoom : List ℕ → ℕ → ExtendError → Type 0
-HasNoRoom words object error =
-    (error ≡ Full 1 (longest_free_run words)) × (next_pointer words object ≡ 0) × IsFull words 256
+-- The heap has no room for a segment that the object doesn't own: so many neighbouring pages are needed, and its longest
+-- free run has so many.
+pub record HasNoRoom (words : List ℕ) (object need largest : ℕ) : Type 0 where
+  pub need_is : need ≡ 1
+  pub largest_is : largest ≡ longest_free_run words
+  pub unowned : next_pointer words object ≡ 0
+  pub heap_full : IsFull words 256
 
 -- The segment is planned: it begins at this place, its allocation, if it needs one, follows the actions, and the index
 -- stands for the words behind it.

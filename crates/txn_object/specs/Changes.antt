@@ -19,7 +19,7 @@ use Rattle.txn_object.specs.Calls.{MayPlanExtension}
 use Rattle.txn_object.specs.Entries.{entry_word}
 use Rattle.txn_object.specs.Extension.{Source, owned, allocated, Extension, new_segment, source_parts, extension_parts, segment_block, HasSegments, MayExtend}
 use Rattle.txn_object.specs.Object.{entries_in, nth_place, begin_parts, entry_part, retire_parts, NoEntryFollowsZero}
-use Rattle.txn_object.specs.Shown.{Transaction, Shows, HasObject, MayEnter, IsUnextended, IsExtended, IsRetiring, IsRetired}
+use Rattle.txn_object.specs.Shown.{Transaction, Shows, HasObject, MayAddEntry, IsUnextended, IsExtended, IsRetiring, IsRetired}
 use Rattle.txn_object.specs.Spared.{KeepsObject, SparesObject}
 
 -- What the plans of an object read is the same: its words. No number was taken back.
@@ -62,7 +62,7 @@ pub record IsBegun (object : ℕ) (base words : List ℕ) : Type 0 where
   pub others : (w : ℕ) → w ≢ state_at object → slice_index words w ≡ slice_index base w
   pub shows : (t : Transaction) → Shows base object t → Shows words object (begun t)
   pub is_object : HasObject words object
-  pub next : (nth : ℕ) (entry : Entry) → MayEnter base object nth entry → MayEnter words object nth entry
+  pub next : (nth : ℕ) (entry : Entry) → MayAddEntry base object nth entry → MayAddEntry words object nth entry
   pub goes_on : GoesOn object base words
 
 abbrev pub beginning : ℕ → Change
@@ -111,12 +111,12 @@ pub record IsEntered (n : NewEntry) (base words : List ℕ) : Type 0 where
   pub is_object : HasObject words n.object
   pub packed : NoEntryFollowsZero words n.object
   pub next : (other : Entry) → n.nth + 1 < length (entry_places base n.object) → IsSpelt other
-      → MayEnter words n.object (n.nth + 1) other
+      → MayAddEntry words n.object (n.nth + 1) other
   pub goes_on : GoesOn n.object base words
 
 abbrev pub entering : NewEntry → Change
 entering n = record {
-  asks = λ base. MayEnter base n.object n.nth n.entry;
+  asks = λ base. MayAddEntry base n.object n.nth n.entry;
   parts = λ base. entry_parts base n;
   shows = λ base image. (image ≡ base) ⊎ IsEntered n base image;
   ends = IsEntered n;
@@ -125,7 +125,7 @@ entering n = record {
 
 -- the entry may be entered into this transaction, before parts that leave the object's words
 pub record IsEntryBefore (base : List ℕ) (n : NewEntry) (t : Transaction) (parts : List Part) : Type 0 where
-  pub may : MayEnter base n.object n.nth n.entry
+  pub may : MayAddEntry base n.object n.nth n.entry
   pub shows : Shows base n.object t
   pub spares : SparesObject base n.object parts
 
@@ -161,7 +161,7 @@ pub record EndsExtension (e : Extension) (base words : List ℕ) : Type 0 where
   pub mended : mended_lane e.object words ≡ words
   pub segments : HasSegments words e.object
   pub next : HasObject base e.object → NoEntryFollowsZero base e.object → (entry : Entry) → IsSpelt entry
-      → MayEnter words e.object (length (entries base e.object)) entry
+      → MayAddEntry words e.object (length (entries base e.object)) entry
   pub again : (index : HeapIndex) → IsIndexOf words index → MayPlanExtension words index e.object
 
 -- what the source of a segment reads is the same: that it is a block of the heap, or what its allocation reads
@@ -198,7 +198,7 @@ pub record Retirement : Type 0 where
   pub word : Bool
 
 -- the object has so many entry words
-pub record MayRetire (words : List ℕ) (r : Retirement) : Type 0 where
+pub record MayBeRetired (words : List ℕ) (r : Retirement) : Type 0 where
   pub is_object : HasObject words r.object
   pub most : r.entries ≤ length (entry_places words r.object)
 
@@ -214,7 +214,7 @@ IsRetiredBy r old words = IsRetired old r.object r.entries r.word words
 
 -- no fewer entries are cleared than the transaction has
 pub record ClearsAll (old : List ℕ) (r : Retirement) : Type 0 where
-  pub may : MayRetire old r
+  pub may : MayBeRetired old r
   pub all : length (entries_in old r.object) ≤ r.entries
   pub packed : NoEntryFollowsZero old r.object
 
@@ -228,7 +228,7 @@ no_transaction = record { state = CLOSED; commit_word = 0; entries = [] }
 
 abbrev pub retiring : Retirement → Change
 retiring r = record {
-  asks = λ base. MayRetire base r;
+  asks = λ base. MayBeRetired base r;
   parts = λ base. retire_parts base r.object r.entries r.word;
   shows = ShowsRetire r;
   ends = IsRetiredBy r;

@@ -1,11 +1,9 @@
 -- What the words of a transaction object show, and what the plans of a transaction may rest on.
 use Rattle.std.specs.Prelude.{◌≡◌, ◌≢◌, ◌⊎◌, ℕ, ◌+◌, ◌%◌, ◌^◌, ◌<◌, ◌≤◌, Bool, IsTrue, List, [], ◌∷◌, ◌++◌, length, slice_index}
-use Rattle.pm_model.specs.declared.action.Action.{Action}
-use Rattle.pm_model.specs.Device.{Device}
 use Rattle.image_layout.specs.Fixed.{state_at, commit_word_at, ready_at}
 use Rattle.image_layout.specs.Pointer.{pointer_word}
 use Rattle.image_layout.specs.Blocks.{live_blocks}
-use Rattle.pm_model.specs.Plans.{Play, IsPlaying, IsCrashImageWithin, IsTakenBack, finished}
+use Rattle.pm_model.specs.Plans.{finished}
 use Rattle.image_layout.specs.HeapLaws.{AreApart}
 use Rattle.image_layout.specs.Checks.{Keeps}
 use Rattle.image_layout.specs.Objects.{ready_count, segment_of, pointer_after, ready_segments, entry_places, entries}
@@ -40,21 +38,13 @@ pub record HasObject (words : List ℕ) (object : ℕ) : Type 0 where
       → AreApart (segment_block (segment_of words object segment)) (segment_block (segment_of words object other))
 
 -- the object has so many entries, and this one may be the next
-pub record MayEnter (words : List ℕ) (object nth : ℕ) (entry : Entry) : Type 0 where
+pub record MayAddEntry (words : List ℕ) (object nth : ℕ) (entry : Entry) : Type 0 where
   pub is_object : HasObject words object
   pub count : length (entries words object) ≡ nth
   pub room : nth < length (entry_places words object)
   pub packed : NoEntryFollowsZero words object
   pub table : entry.table < 2 ^ 24
   pub row : entry.row < 2 ^ 32
-
--- A power cut leaves this image while these actions of the plan are left, and the base is the image with the plan taken
--- back.
-pub record IsCut (play : Play) (left : List Action) (d : Device) (image base : List ℕ) : Type 0 where
-  pub played : ℕ
-  pub playing : IsPlaying play played left d
-  pub left_by : IsCrashImageWithin play.own d image
-  pub back : IsTakenBack play image base
 
 -- ── a retire ──
 

@@ -1,9 +1,9 @@
 // Planning the extension of a transaction object by a segment.
-ghost use Rattle.std.specs.Prelude.{◌≡◌, ◌≢◌, ◌⊎◌, ◌+◌, ◌-◌, ◌%◌, ◌<◌, ◌≤◌, ◌++◌, Err, IfOk, IfErr, OnErr, length, slice_index};
+ghost use Rattle.std.specs.Prelude.{ℕ, ◌≡◌, ◌≢◌, ◌↔◌, ◌+◌, ◌-◌, ◌%◌, ◌<◌, ◌≤◌, ◌++◌, Err, IfOk, OnErr, length, slice_index};
 ghost use Rattle.pm_model.specs.Plans.{plan_of};
 ghost use Rattle.image_layout.specs.Objects.{ready_count, pointer_after};
 ghost use Rattle.heap_palloc.specs.Calls.{IsFull};
-ghost use Rattle.txn_object.specs.declared.error.ExtendError.TheVariants.{WriteSetFull, NoMemory as OutOfMemory};
+ghost use Rattle.txn_object.specs.declared.error.ExtendError.TheVariants.{WriteSetFull, Full};
 ghost use Rattle.txn_object.specs.Extension.{readying_parts};
 ghost use Rattle.txn_object.specs.Calls.{next_pointer, MayPlanExtension, IsExtensionPlanned, IsSegmentPlanned, HasNoRoom};
 
@@ -40,10 +40,9 @@ pub fn plan_extend<M: Memory>(
     ensures planned { IfOk result (λ plan.
         IsExtensionPlanned (M.device mem.now).cached heap.old heap.new (session - 1) plan.left) }
 
-    ensures write_set_full { ready_count (M.device mem.now).cached (session - 1) ≡ 32 → result ≡ Err WriteSetFull }
-    ensures full { IfErr result (λ error. (error ≡ OutOfMemory)
-        ⊎ ((error ≡ WriteSetFull) × (ready_count (M.device mem.now).cached (session - 1) ≡ 32))
-        ⊎ HasNoRoom (M.device mem.now).cached (session - 1) error) }
+    ensures write_set_full { ready_count (M.device mem.now).cached (session - 1) ≡ 32 ↔ (result ≡ Err WriteSetFull) }
+    ensures full { (need largest : ℕ) → result ≡ Err (Full need largest) →
+        HasNoRoom (M.device mem.now).cached (session - 1) need largest }
     ensures room { IfOk result (λ _.
         next_pointer (M.device mem.now).cached (session - 1) ≡ 0 → IsFull (M.device mem.now).cached 256 → ⊥) }
     ensures unchanged { OnErr result (heap.new ≡ heap.old) }
@@ -76,7 +75,9 @@ fn push_segment<M: Memory>(
     ensures planned { IfOk result (λ segment.
         IsSegmentPlanned (M.device mem.now).cached heap.old heap.new object segment.0 plan.old.left plan.new.left) }
     ensures spare { IfOk result (λ _. plan.old.spare ≤ plan.new.spare + 23) }
-    ensures full { IfErr result (λ error. (error ≡ OutOfMemory) ⊎ HasNoRoom (M.device mem.now).cached object error) }
+    ensures not_write_set_full { result ≡ Err WriteSetFull → ⊥ }
+    ensures full { (need largest : ℕ) → result ≡ Err (Full need largest) →
+        HasNoRoom (M.device mem.now).cached object need largest }
     ensures fits { IfOk result (λ _.
         next_pointer (M.device mem.now).cached object ≡ 0 → IsFull (M.device mem.now).cached 256 → ⊥) }
     ensures unchanged { OnErr result (heap.new ≡ heap.old) }

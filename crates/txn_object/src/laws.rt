@@ -13,7 +13,7 @@ ghost use Rattle.txn_object.specs.Changes.{begun, beginning, IsBeginBefore, IsSp
 ghost use Rattle.txn_object.specs.Entries.{entry_word, entry_of};
 ghost use Rattle.txn_object.specs.Extension.{Extension, HasSegments, MayExtend};
 ghost use Rattle.txn_object.specs.Object.{nth_place, begin_parts, NoEntryFollowsZero};
-ghost use Rattle.txn_object.specs.Shown.{Transaction, Shows, HasObject, MayEnter};
+ghost use Rattle.txn_object.specs.Shown.{Transaction, Shows, HasObject, MayAddEntry};
 ghost use Rattle.txn_object.specs.Spared.{KeepsObject, SparesObject};
 
 /// A begin: at each cut the words are as before, or the object is open and its entries are as before. After its last
@@ -76,7 +76,7 @@ pub fn retire_law()
     ensures empty { (r : Retirement) (old words : List ℕ) (nth : ℕ) → ClearsAll old r → IsRetiredBy r old words →
         nth < length (entry_places old r.object) → slice_index words (nth_place old r.object nth) ≡ 0 }
     ensures begins { (r : Retirement) (old words : List ℕ) (entry : Entry) →
-        ClearsAll old r → IsRetiredBy r old words → IsSpelt entry → MayEnter words r.object 0 entry }
+        ClearsAll old r → IsRetiredBy r old words → IsSpelt entry → MayAddEntry words r.object 0 entry }
 {}
 
 /// What an object shows, and its rule, depend on its own words alone, and the rule also on the last number.
