@@ -4,3 +4,5 @@ pub mod Bounds
 pub mod Moves
 pub mod Following
 pub mod Waits
+pub mod Circles
+pub mod Cuts

@@ -5,30 +5,57 @@ use Rattle.std.proofs.lemmas.Bool.{cases_Bool}
 use Rattle.drill.specs.declared.schedule.Standing.{Standing}
 use Rattle.drill.specs.declared.schedule.Standing.TheVariants.{Blocked, Done, Ready, Running}
 use Rattle.drill.specs.declared.schedule.Move.{Move}
-use Rattle.drill.specs.declared.schedule.Move.TheVariants.{Stuck}
+use Rattle.drill.specs.declared.schedule.Move.TheVariants.{Over, Start, Step, Stuck}
 use Rattle.drill.specs.Draws.{draw}
-use Rattle.drill.specs.Laws.{Fits}
+use Rattle.drill.specs.Laws.{Fits, WaitsFor, has_call}
+use Rattle.drill.proofs.Circles.{never-stuck}
 use Rattle.drill.specs.Schedule.{first_going, is_done, move_at, move_of, picked, standing_of, start_or, step_behind, step_or, upwards}
 
-step-fits : (sessions : List Standing) (session : ℕ) (held : Standing) (in_place : ℕ → Move) → standing_of sessions session ≡ held
-    → Fits sessions Stuck → ((holder : ℕ) → Fits sessions (in_place holder)) → Fits sessions (step_or held session in_place)
-step-fits sessions session Running in_place is stuck goes_on = is
-step-fits sessions session (Blocked holder) in_place is stuck goes_on = goes_on holder
-step-fits sessions session Ready in_place is stuck goes_on = stuck
-step-fits sessions session Done in_place is stuck goes_on = stuck
+-- what a move behind a session is: a step at the end of its holders, or none
+abbrev Behind : List Standing → ℕ → Move → Type 0
+Behind sessions session (Step last) =
+    (holders : List ℕ) × WaitsFor sessions session holders last × (standing_of sessions last ≡ Running)
+Behind sessions session Stuck = Unit {0}
+Behind sessions session other = ⊥
 
--- behind a blocked session
-behind-fits : (sessions : List Standing) (count session : ℕ) → Fits sessions Stuck → Fits sessions (step_behind sessions count session)
-behind-fits sessions zero session stuck = stuck
-behind-fits sessions (suc count) session stuck =
-    step-fits sessions session (standing_of sessions session) (step_behind sessions count) refl stuck (λ holder. behind-fits sessions count holder stuck)
+waits-behind : (sessions : List Standing) (session holder : ℕ) (done : Move) → standing_of sessions session ≡ Blocked holder
+    → Behind sessions holder done → Behind sessions session done
+waits-behind sessions session holder (Step last) is steps = (holder ∷ steps.0, (is, steps.1), steps.2)
+waits-behind sessions session holder (Start other) is steps = absurd steps
+waits-behind sessions session holder Stuck is steps = tt
+waits-behind sessions session holder Over is steps = absurd steps
 
-start-fits : (sessions : List Standing) (session : ℕ) (held : Standing) → standing_of sessions session ≡ held → is_done held ≡ false
-    → Fits sessions (start_or held session (step_or held session (step_behind sessions 3)))
-start-fits sessions session Done is going = absurd (let e : true ≡ false = going in cc)
-start-fits sessions session Ready is going = is
-start-fits sessions session Running is going = is
-start-fits sessions session (Blocked holder) is going = behind-fits sessions 3 holder (session, holder, is)
+step-behind : (sessions : List Standing) (session : ℕ) (held : Standing) (in_place : ℕ → Move) → standing_of sessions session ≡ held
+    → ((holder : ℕ) → Behind sessions holder (in_place holder)) → Behind sessions session (step_or held session in_place)
+step-behind sessions session Running in_place is goes_on = ([], refl, is)
+step-behind sessions session (Blocked holder) in_place is goes_on = waits-behind sessions session holder (in_place holder) is (goes_on holder)
+step-behind sessions session Ready in_place is goes_on = tt
+step-behind sessions session Done in_place is goes_on = tt
+
+steps-behind : (sessions : List Standing) (count session : ℕ) → Behind sessions session (step_behind sessions count session)
+steps-behind sessions zero session = tt
+steps-behind sessions (suc count) session =
+    step-behind sessions session (standing_of sessions session) (step_behind sessions count) refl (steps-behind sessions count)
+
+-- what is done behind a session with a call in flight
+call-fits : (sessions : List Standing) (from session : ℕ) (done : Move) → length sessions ≡ 4
+    → first_going sessions 4 from ≡ Some session → has_call (standing_of sessions session) ≡ true
+    → step_behind sessions 4 session ≡ done → Behind sessions session done → Fits sessions from done
+call-fits sessions from session (Step last) four found called is steps = (session, found, steps.0, steps.1, steps.2)
+call-fits sessions from session (Start other) four found called is steps = absurd steps
+call-fits sessions from session Stuck four found called is steps =
+    (session, found, called, λ holders last waits runs. absurd (never-stuck sessions session last holders four waits runs is))
+call-fits sessions from session Over four found called is steps = absurd steps
+
+going-fits : (sessions : List Standing) (from session : ℕ) (held : Standing) → length sessions ≡ 4
+    → first_going sessions 4 from ≡ Some session → standing_of sessions session ≡ held → is_done held ≡ false
+    → Fits sessions from (start_or held session (step_behind sessions 4 session))
+going-fits sessions from session Done four found is going = absurd (let e : true ≡ false = going in cc)
+going-fits sessions from session Ready four found is going = (found, is)
+going-fits sessions from session Running four found is going =
+    call-fits sessions from session (step_behind sessions 4 session) four found (rw is refl) refl (steps-behind sessions 4 session)
+going-fits sessions from session (Blocked holder) four found is going =
+    call-fits sessions from session (step_behind sessions 4 session) four found (rw is refl) refl (steps-behind sessions 4 session)
 
 -- the session that is found is not done
 found-goes : (sessions : List Standing) (count from session : ℕ) → first_going sessions count from ≡ Some session → is_done (standing_of sessions session) ≡ false
@@ -88,11 +115,12 @@ all-done (a ∷ []) from four low high none = absurd (omega arith)
 all-done [] from four low high none = absurd (omega arith)
 
 move-fits : (sessions : List Standing) (from : ℕ) (found : Option ℕ) → length sessions ≡ 4 → 1 ≤ from → from ≤ 4 → first_going sessions 4 from ≡ found
-    → Fits sessions (move_of sessions found)
+    → Fits sessions from (move_of sessions found)
 move-fits sessions from None four low high is = all-done sessions from four low high is
 move-fits sessions from (Some session) four low high is =
-    start-fits sessions session (standing_of sessions session) refl (found-goes sessions 4 from session is)
+    going-fits sessions from session (standing_of sessions session) four is refl (found-goes sessions 4 from session is)
 
-pub moves-fit : (number turn : ℕ) (sessions : List Standing) → length sessions ≡ 4 → Fits sessions (move_at number turn sessions)
+pub moves-fit : (number turn : ℕ) (sessions : List Standing) → length sessions ≡ 4
+    → Fits sessions (picked number turn) (move_at number turn sessions)
 moves-fit number turn sessions four =
     move-fits sessions (picked number turn) (first_going sessions 4 (picked number turn)) four (omega arith) (omega arith) refl

@@ -11,7 +11,7 @@ use Rattle.drill.specs.Laws.{IsOrder, StepsFor, has_call}
 use Rattle.drill.specs.Schedule.{first_going, move_at, move_of, picked, standing_of, start_or, step_behind, step_or}
 
 -- 1 where the first is below the second
-abbrev counted : ℕ → ℕ → ℕ
+abbrev pub counted : ℕ → ℕ → ℕ
 counted a r = if nat_le r a then 0 else 1
 
 counted-low : (a r : ℕ) → r ≤ a → counted a r ≡ 0
@@ -38,11 +38,11 @@ counted-grows a q r le =
     ]
 
 -- how many of four places are below this one
-abbrev count_below : ℕ → ℕ → ℕ → ℕ → ℕ → ℕ
+abbrev pub count_below : ℕ → ℕ → ℕ → ℕ → ℕ → ℕ
 count_below a b c d r = counted a r + counted b r + counted c r + counted d r
 
 -- fewer are below a place than below a later one, and fewer than four below one of themselves
-abbrev Counts : ℕ → ℕ → ℕ → ℕ → ℕ → Type 0
+abbrev pub Counts : ℕ → ℕ → ℕ → ℕ → ℕ → Type 0
 Counts a b c d x = (count_below a b c d x < 4) × ((r : ℕ) → x < r → count_below a b c d x < count_below a b c d r)
 
 counts-first : (a b c d : ℕ) → Counts a b c d a
@@ -94,10 +94,10 @@ by-session P p q r s (a ∷ []) (suc (suc (suc (suc (suc more))))) four called =
 by-session P p q r s [] (suc (suc (suc (suc (suc more))))) four called = absurd (omega arith)
 
 -- how many sessions have a place below this one
-abbrev below : (ℕ → ℕ) → ℕ → ℕ
+abbrev pub below : (ℕ → ℕ) → ℕ → ℕ
 below place r = count_below (place 1) (place 2) (place 3) (place 4) r
 
-counts-of : (place : ℕ → ℕ) (sessions : List Standing) (session : ℕ) → length sessions ≡ 4
+pub counts-of : (place : ℕ → ℕ) (sessions : List Standing) (session : ℕ) → length sessions ≡ 4
     → has_call (standing_of sessions session) ≡ true → Counts (place 1) (place 2) (place 3) (place 4) (place session)
 counts-of place sessions session four called =
     by-session (λ session. Counts (place 1) (place 2) (place 3) (place 4) (place session))

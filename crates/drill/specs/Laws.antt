@@ -1,5 +1,5 @@
 -- What holds of scripts and schedules, whatever the number.
-use Rattle.std.specs.Prelude.{ℕ, ◌≡◌, ◌+◌, ◌<◌, ◌≤◌, not, Bool, true, false, All, List, [], ◌∷◌, ◌++◌, length, Some}
+use Rattle.std.specs.Prelude.{ℕ, ◌≡◌, ◌≢◌, ◌+◌, ◌<◌, ◌≤◌, not, Bool, true, false, All, List, [], ◌∷◌, ◌++◌, length, Some}
 use Rattle.mv_model.specs.declared.call.Call.{Call}
 use Rattle.mv_model.specs.declared.call.Call.TheVariants as call
 use Rattle.script_text.specs.declared.script.Line.{Line}
@@ -43,19 +43,6 @@ abbrev pub EachFollows : Type 0
 EachFollows = (number statements : ℕ) (earlier later : List Line) (said : Line)
     → script_of number statements ≡ earlier ++ said ∷ later → 0 < length earlier → Follows earlier said
 
--- The move fits how the sessions stand: one that starts has a statement left and no call in flight, the call of one
--- that steps goes on, none steps only where one is blocked, and the run is over only where every session is done.
-abbrev pub Fits : List Standing → Move → Type 0
-Fits sessions (Start session) = standing_of sessions session ≡ Ready
-Fits sessions (Step session) = standing_of sessions session ≡ Running
-Fits sessions Stuck = (session : ℕ) × (holder : ℕ) × (standing_of sessions session ≡ Blocked holder)
-Fits sessions Over = (session : ℕ) → is_done (standing_of sessions session) ≡ true
-
--- each move fits
-abbrev pub MovesFit : Type 0
-MovesFit = (number turn : ℕ) (sessions : List Standing) → length sessions ≡ 4
-    → Fits sessions (move_at number turn sessions)
-
 -- the session has a call in flight
 abbrev pub has_call : Standing → Bool
 has_call Running = true
@@ -73,6 +60,26 @@ abbrev pub WaitsFor : List Standing → ℕ → List ℕ → ℕ → Type 0
 WaitsFor sessions session [] last = session ≡ last
 WaitsFor sessions session (holder ∷ holders) last =
     (standing_of sessions session ≡ Blocked holder) × WaitsFor sessions holder holders last
+
+-- The move is what the turn of the picked session asks for. Of the sessions upwards from that one the first that is not
+-- done starts its next statement, if it has no call in flight. Else the running session at the end of its holders steps;
+-- and the answer is `Stuck` only where its holders, however far they are followed, lead to no running one. The run is over
+-- only where every session is done.
+abbrev pub Fits : List Standing → ℕ → Move → Type 0
+Fits sessions picked (Start session) =
+    (first_going sessions 4 picked ≡ Some session) × (standing_of sessions session ≡ Ready)
+Fits sessions picked (Step last) =
+    (session : ℕ) × (first_going sessions 4 picked ≡ Some session)
+    × (holders : List ℕ) × WaitsFor sessions session holders last × (standing_of sessions last ≡ Running)
+Fits sessions picked Stuck =
+    (session : ℕ) × (first_going sessions 4 picked ≡ Some session) × (has_call (standing_of sessions session) ≡ true)
+    × ((holders : List ℕ) (last : ℕ) → WaitsFor sessions session holders last → standing_of sessions last ≢ Running)
+Fits sessions picked Over = (session : ℕ) → is_done (standing_of sessions session) ≡ true
+
+-- each move fits
+abbrev pub MovesFit : Type 0
+MovesFit = (number turn : ℕ) (sessions : List Standing) → length sessions ≡ 4
+    → Fits sessions (picked number turn) (move_at number turn sessions)
 
 -- the move is a step of the running session at the end of this session's holders
 abbrev pub StepsFor : List Standing → ℕ → Move → Type 0

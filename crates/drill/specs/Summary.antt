@@ -1,8 +1,11 @@
 -- The summary of a run.
-use Rattle.std.specs.Prelude.{ℕ, Bool, true, false, codes, count_by, decimal, List, [], ◌∷◌, ◌++◌}
+use Rattle.std.specs.Prelude.{ℕ, zero, suc, ◌+◌, ◌%◌, ◌==◌, ◌&&◌, nat_lt, Bool, true, false, codes, count_by, decimal, if◌then◌else◌, List, [], ◌∷◌, ◌++◌, length}
 use Rattle.mv_model.specs.declared.reply.Reply.{Reply}
 use Rattle.mv_model.specs.declared.reply.Reply.TheVariants as reply
 use Rattle.mv_model.specs.declared.reply.Entry.{Entry}
+use Rattle.mv_model.specs.State.{State, Transaction, empty, no_writes}
+use Rattle.mv_model.specs.View.{view}
+use Rattle.mv_model.specs.History.{state_after}
 use Rattle.drill.specs.declared.summary.Counted.{Counted}
 use Rattle.drill.specs.declared.summary.Counted.TheVariants as counted
 use Rattle.drill.specs.declared.summary.Summary.{Summary}
@@ -19,6 +22,38 @@ is_counted kind other = false
 -- how many entries of a history have such a reply
 abbrev pub count_of : Counted → List Entry → ℕ
 count_of kind history = count_by (λ entry. is_counted kind entry.reply) history
+
+-- a cut is tried after the turn of this number, counted from 0
+abbrev pub is_cut_turn : ℕ → Bool
+is_cut_turn turn = nat_lt 0 turn && turn % 1024 == 0
+
+-- how many cuts are tried in so many turns
+abbrev pub cuts_in : ℕ → ℕ
+cuts_in zero = 0
+cuts_in (suc turns) = if is_cut_turn turns then cuts_in turns + 1 else cuts_in turns
+
+-- a transaction that begins in this state
+abbrev pub newcomer : State → Transaction
+newcomer state = record { number = state.begun + 1; snapshot = length state.commits; writes = no_writes }
+
+-- how many rows of the first table a new transaction sees at the end of a history
+abbrev pub rows_left : List Entry → ℕ
+rows_left history = let state = state_after empty history in length (view state (newcomer state) 0)
+
+-- what a run came to: that of a number with so many statements, by its history and how many turns it had
+abbrev pub summary_of : ℕ → ℕ → List Entry → ℕ → Summary
+summary_of number statements history turns = record {
+  number = number;
+  statements = statements;
+  began = count_of counted.Began history;
+  committed = count_of counted.Committed history;
+  read_only = count_of counted.ReadOnly history;
+  aborted = count_of counted.Aborted history;
+  conflicts = count_of counted.Conflict history;
+  rows = rows_left history;
+  turns = turns;
+  cuts = cuts_in turns;
+}
 
 -- `drill N S`
 abbrev pub heading_line : ℕ → ℕ → List ℕ

@@ -12,4 +12,4 @@ mod table;
 
 pub use schedule::{Move, Standing, move_at, pick};
 pub use script::script_of;
-pub use summary::{Counted, Summary, count_replies, summary_text};
+pub use summary::{Counted, Summary, count_replies, is_cut_turn, summary_of, summary_text};

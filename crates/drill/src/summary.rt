@@ -1,5 +1,5 @@
 ghost use Rattle.std.specs.Prelude.{◌≡◌, ◌<◌, ◌^◌, ◌++◌, length, IfOk, OnOk, string_bytes};
-ghost use Rattle.drill.specs.Summary.{count_of, ended, heading_line, is_counted, rows_line, summary_text, transactions_line, turns_line};
+ghost use Rattle.drill.specs.Summary.{count_of, cuts_in, ended, heading_line, is_counted, is_cut_turn, rows_left, rows_line, summary_of, summary_text, transactions_line, turns_line};
 
 use mv_model::{Entry, NoMemory, Reply};
 use std::alloc::Global;
@@ -56,6 +56,41 @@ pub fn count_replies(kind: Counted, history: &[Entry]) -> u32
         .iter()
         .filter(|entry| is_counted(kind, &entry.reply))
         .count() as u32
+}
+
+/// Whether a cut is tried after the turn, counted from 0.
+pub fn is_cut_turn(turn: u64) -> bool
+    ensures { result ≡ is_cut_turn turn }
+{
+    turn > 0 && turn % 1_024 == 0
+}
+
+/// How many cuts are tried in so many turns.
+fn cuts_in(turns: u64) -> u64
+    ensures { result ≡ cuts_in turns }
+{
+    turns.saturating_sub(1) / 1_024
+}
+
+/// What the run of a number came to, by its history from an empty store on, the rows that a new transaction sees at its
+/// end, and how many turns it had.
+pub fn summary_of(number: u64, statements: u32, history: &[Entry], rows: u32, turns: u64) -> Summary
+    requires fits { length history.now < 2 ^ 32 }
+    requires rows { rows ≡ rows_left history.now }
+    ensures { result ≡ summary_of number statements history.now turns }
+{
+    Summary {
+        number,
+        statements,
+        began: count_replies(Counted::Began, history),
+        committed: count_replies(Counted::Committed, history),
+        read_only: count_replies(Counted::ReadOnly, history),
+        aborted: count_replies(Counted::Aborted, history),
+        conflicts: count_replies(Counted::Conflict, history),
+        rows,
+        turns,
+        cuts: cuts_in(turns),
+    }
 }
 
 fn heading_line(alloc: Global, number: u64, statements: u32) -> Result<String, NoMemory>
