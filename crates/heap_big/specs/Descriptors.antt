@@ -37,11 +37,14 @@ pub record IsHeadOf (count descriptor : ℕ) : Type 0 where
 abbrev pub TakingLaw : Type 0
 TakingLaw = (descriptors : List ℕ) (run : Run) (head : ℕ) → IsInSegment run → IsHeadOf run.pages head
     → ((page : ℕ) → HasPage run page → IsFreePage descriptors page)
-    → (page : ℕ) → IsFreePage (slice_set descriptors run.first head) page ↔ (IsFreePage descriptors page × (HasPage run page → ⊥))
+    → (page : ℕ) → IsFreePage (slice_set descriptors run.first head) page
+    ↔ (IsFreePage descriptors page × (HasPage run page → ⊥))
 
 -- pages whose head becomes a free page are free, where the descriptors behind it are those of free pages
 abbrev pub GivingBackLaw : Type 0
-GivingBackLaw = (descriptors : List ℕ) (run : Run) (free : ℕ) → IsInSegment run → end_of run ≤ length descriptors → free ≤ 1
+GivingBackLaw = (descriptors : List ℕ) (run : Run) (free : ℕ) → IsInSegment run → end_of run ≤ length descriptors
+    → free ≤ 1
     → inside_at descriptors run.first ≡ 0 → IsHeadOf run.pages (slice_index descriptors run.first)
     → ((page : ℕ) → run.first < page → page < end_of run → slice_index descriptors page ≤ 1)
-    → (page : ℕ) → IsFreePage (slice_set descriptors run.first free) page ↔ (IsFreePage descriptors page ⊎ HasPage run page)
+    → (page : ℕ) → IsFreePage (slice_set descriptors run.first free) page
+    ↔ (IsFreePage descriptors page ⊎ HasPage run page)

@@ -78,11 +78,14 @@ impl Runs {
         requires pending { EndsAt pending page }
         requires apart { (other : ℕ) → HasPage pending other → IsFree self.old.runs other → ⊥ }
         ensures free { inside ≡ 0 → descriptor ≤ 1 → (other : ℕ)
-            → (IsFree self.new.runs other ⊎ HasPage result other) ↔ ((IsFree self.old.runs other ⊎ HasPage pending other) ⊎ (other ≡ page)) }
+            → (IsFree self.new.runs other ⊎ HasPage result other) ↔
+            ((IsFree self.old.runs other ⊎ HasPage pending other) ⊎ (other ≡ page)) }
         ensures inside { 0 < inside → (other : ℕ)
-            → (IsFree self.new.runs other ⊎ HasPage result other) ↔ (IsFree self.old.runs other ⊎ HasPage pending other) }
+            → (IsFree self.new.runs other ⊎ HasPage result other) ↔
+            (IsFree self.old.runs other ⊎ HasPage pending other) }
         ensures used { 1 < descriptor → (other : ℕ)
-            → (IsFree self.new.runs other ⊎ HasPage result other) ↔ (IsFree self.old.runs other ⊎ HasPage pending other) }
+            → (IsFree self.new.runs other ⊎ HasPage result other) ↔
+            (IsFree self.old.runs other ⊎ HasPage pending other) }
         ensures pending { EndsAt result (page + 1) }
         ensures apart { (other : ℕ) → HasPage result other → IsFree self.new.runs other → ⊥ }
         ensures page_count { self.new.page_count ≡ self.old.page_count }

@@ -29,12 +29,15 @@ pub(crate) fn neighbours(free: u64, run: Run) -> (Run, Run)
     requires low { end_of run ≤ 8192 }
     ensures left { end_of result.0 ≡ run.first }
     ensures left_in_segment { result.0.pages ≤ run.first % 64 }
-    ensures left_free { (page : ℕ) → run.first % 64 - result.0.pages ≤ page → page < run.first % 64 → bit_at free page ≡ 1 }
+    ensures left_free { (page : ℕ) → run.first % 64 - result.0.pages ≤ page → page < run.first % 64 →
+        bit_at free page ≡ 1 }
     ensures left_whole { result.0.pages < run.first % 64 → bit_at free (run.first % 64 - result.0.pages - 1) ≡ 0 }
     ensures right { result.1.first ≡ end_of run }
     ensures right_in_segment { run.first % 64 + run.pages + result.1.pages ≤ 64 }
-    ensures right_free { (page : ℕ) → run.first % 64 + run.pages ≤ page → page < run.first % 64 + run.pages + result.1.pages → bit_at free page ≡ 1 }
-    ensures right_whole { run.first % 64 + run.pages + result.1.pages < 64 → bit_at free (run.first % 64 + run.pages + result.1.pages) ≡ 0 }
+    ensures right_free { (page : ℕ) → run.first % 64 + run.pages ≤ page →
+        page < run.first % 64 + run.pages + result.1.pages → bit_at free page ≡ 1 }
+    ensures right_whole { run.first % 64 + run.pages + result.1.pages < 64 →
+        bit_at free (run.first % 64 + run.pages + result.1.pages) ≡ 0 }
 {
     let first = u32::from(run.first % 64);
     let before = free_before(free, first);

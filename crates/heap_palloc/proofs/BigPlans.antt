@@ -9,7 +9,7 @@ use Rattle.image_layout.specs.Blocks.{descriptor_of, bitmap_of, says_small, is_i
 use Rattle.heap_palloc.specs.Lane.{is_big_place, mark_at, unmarked}
 use Rattle.heap_palloc.specs.Parts.{allocation_parts, freeing_parts}
 use Rattle.heap_palloc.specs.Shown.{IsOutsideLane, IsAt, IsPlaced, IsClearMark, MayAllocate, MayFree}
-use Rattle.heap_palloc.specs.Law.{KeepsElsewhere, ChangesShown, Allocates, Frees, Pages, pages_allocation, IsRun, IsIdle, MayTakePages, MayFreePages}
+use Rattle.heap_palloc.specs.Law.{KeepsElsewhere, ChangesShown, Allocates, Frees, Pages, pages_allocation, IsPageRun, IsIdle, MayTakePages, MayFreePages}
 use Rattle.heap_palloc.proofs.Changes.{shown_from_atomic}
 use Rattle.heap_palloc.proofs.Slots.{descriptor_outside-lane, bitmap_outside-lane}
 use Rattle.heap_palloc.proofs.SlotPlans.{owner_outside-lane}
@@ -26,7 +26,7 @@ mark-page first = cond-true (is_big_place (page_at first)) _ _ (big_place first)
 unmarked-page : (first descriptor mark : ℕ) → unmarked (page_at first) descriptor mark ≡ 0
 unmarked-page first descriptor mark = cond-true (is_big_place (page_at first)) 0 _ (big_place first)
 
-module _ (words : List ℕ) (r : Pages) (idle : IsIdle words r.lane r.owner) (run : IsRun words r.first r.pages) where
+module _ (words : List ℕ) (r : Pages) (idle : IsIdle words r.lane r.owner) (run : IsPageRun words r.first r.pages) where
   owner_apart : r.owner ≢ descriptor_at r.first
   owner_apart e = omega (arith, e, idle.owner_is.no_descriptor)
 
@@ -49,7 +49,7 @@ module _ (words : List ℕ) (r : Pages) (idle : IsIdle words r.lane r.owner) (ru
 
 -- ── the stages of an allocation of pages, as a heap ──
 
-module _ (base words : List ℕ) (r : Pages) (op mark owner : ℕ) (idle : IsIdle base r.lane r.owner) (run : IsRun base r.first r.pages) (at : IsAt base (pages_allocation r) op mark owner words) where
+module _ (base words : List ℕ) (r : Pages) (op mark owner : ℕ) (idle : IsIdle base r.lane r.owner) (run : IsPageRun base r.first r.pages) (at : IsAt base (pages_allocation r) op mark owner words) where
   pub page-head : descriptor_of words r.first ≡ mark
   page-head = ap (λ (w : ℕ). get_or words w 0) (sym (mark-page r.first)) ∙ at.mark_is
 

@@ -9,7 +9,7 @@ use Rattle.pm_model.specs.Plans.{Part, EachCut, finished, footprint, one_store, 
 use Rattle.pm_model.proofs.Cuts.{between-kept, each_cut-append, each_cut-map, each_cut-unless_empty, finished-unless_empty, footprint-one_store}
 use Rattle.pm_model.proofs.PlanLaw.{words_after-kept}
 use Rattle.heap_palloc.specs.Lane.{mark_at}
-use Rattle.heap_palloc.specs.Law.{Pages, pages_allocation, IsIdle, IsRun}
+use Rattle.heap_palloc.specs.Law.{Pages, pages_allocation, IsIdle, IsPageRun}
 use Rattle.heap_palloc.specs.Parts.{lane_part, allocation_parts, big_allocation_parts, freeing_parts, forget_given_back}
 use Rattle.heap_palloc.proofs.BigPlans.{mark-page}
 use Rattle.heap_palloc.proofs.GivenBack.{forget-out}
@@ -30,7 +30,7 @@ each_spared (part ∷ parts) words w out = (
   each_cut-map (IsSame w (words_after part words)) (IsSame w words) parts (words_after part words) (λ image same. same ∙ words_after-kept part words w out.0) (each_spared parts (words_after part words) w out.1),
 )
 
-module _ (base : List ℕ) (r : Pages) (idle : IsIdle base r.lane r.owner) (run : IsRun base r.first r.pages) (apart : page_at r.first ≢ r.owner) where
+module _ (base : List ℕ) (r : Pages) (idle : IsIdle base r.lane r.owner) (run : IsPageRun base r.first r.pages) (apart : page_at r.first ≢ r.owner) where
   no_descriptor : (page : ℕ) → page_at r.first ≢ descriptor_at page
   no_descriptor page e = omega (arith, e, run.page_is.behind_header)
 

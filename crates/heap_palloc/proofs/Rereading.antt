@@ -7,7 +7,7 @@ use Rattle.image_layout.specs.Places.{page_of, page_at}
 use Rattle.image_layout.specs.Blocks.{descriptor_of, is_small_page}
 use Rattle.heap_small.specs.Bitmap.{with_bit, without_bit}
 use Rattle.heap_palloc.specs.Parts.{allocation_parts, forget_given_back, big_allocation_parts, small_freeing_parts}
-use Rattle.heap_palloc.specs.Law.{IsOwnerPlace, IsHeapPage, IsRun, IsIdle, slot_allocation, Pages, pages_allocation, MayTakeRun, MayFreePages}
+use Rattle.heap_palloc.specs.Law.{IsOwnerPlace, IsHeapPage, IsPageRun, IsIdle, slot_allocation, Pages, pages_allocation, MayTakeRun, MayFreePages}
 use Rattle.heap_palloc.specs.Choice.{Choice, in_page, on_new_page, in_run, choice_parts, MayMake, Freed, of_slot, of_pages, freed_parts, MayRelease}
 use Rattle.heap_palloc.specs.Changes.{SameRunRead, SameChoiceRead, SameFreedRead}
 use Rattle.heap_palloc.proofs.Survival.{take_slot-read, new_slot-read, free_slot-read}
@@ -31,7 +31,7 @@ module _ (old new : List ℕ) (r : Pages) (same : SameRunRead old new r) where
   idle_same : IsIdle old r.lane r.owner → IsIdle new r.lane r.owner
   idle_same idle = record { lane_is = idle.lane_is; op = same.op ∙ idle.op; owner_is = owner_same old new r.owner same.size same.owner_small idle.owner_is }
 
-  run_same : IsRun old r.first r.pages → IsRun new r.first r.pages
+  run_same : IsPageRun old r.first r.pages → IsPageRun new r.first r.pages
   run_same run = record {
     page_is = heap_page_same old new r.first same.size run.page_is;
     in_image = subst (λ (n : ℕ). r.first + r.pages ≤ n / 512) (sym same.size) run.in_image;

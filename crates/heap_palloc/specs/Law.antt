@@ -151,7 +151,7 @@ abbrev pub pages_allocation : Pages → Allocation
 pages_allocation r = record { lane = r.lane; owner = r.owner; block = page_at r.first; marked = 16 + r.pages }
 
 -- pages of one segment of the image, of which none is reserved
-pub record IsRun (words : List ℕ) (first pages : ℕ) : Type 0 where
+pub record IsPageRun (words : List ℕ) (first pages : ℕ) : Type 0 where
   pub page_is : IsHeapPage words first
   pub in_image : first + pages ≤ page_count words
   pub in_segment : first % 64 + pages ≤ 64
@@ -163,21 +163,21 @@ pub record IsRun (words : List ℕ) (first pages : ℕ) : Type 0 where
 pub record MayTakePages (words : List ℕ) (r : Pages) : Type 0 where
   pub idle : IsIdle words r.lane r.owner
   pub unowned : slice_index words r.owner ≡ 0
-  pub run : IsRun words r.first r.pages
+  pub run : IsPageRun words r.first r.pages
   pub clean : (k : ℕ) → k < r.pages → descriptor_of words (r.first + k) ≡ 0
 
 -- free pages may be allocated, also such as were given back
 pub record MayTakeRun (words : List ℕ) (r : Pages) : Type 0 where
   pub idle : IsIdle words r.lane r.owner
   pub unowned : slice_index words r.owner ≡ 0
-  pub run : IsRun words r.first r.pages
+  pub run : IsPageRun words r.first r.pages
   pub are_free : (k : ℕ) → k < r.pages → descriptor_of words (r.first + k) ≤ 1
 
 -- a big block may be freed
 pub record MayFreePages (words : List ℕ) (r : Pages) : Type 0 where
   pub idle : IsIdle words r.lane r.owner
   pub owned : slice_index words r.owner ≡ pointer_word (page_at r.first)
-  pub run : IsRun words r.first r.pages
+  pub run : IsPageRun words r.first r.pages
   pub head : descriptor_of words r.first ≡ 16 + r.pages
   pub clean : (k : ℕ) → 0 < k → k < r.pages → descriptor_of words (r.first + k) ≡ 0
 

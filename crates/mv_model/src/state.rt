@@ -360,7 +360,8 @@ impl TableState {
     ) -> Result<Reply, NoMemory>
         requires { table < length self.now.tables }
         ensures due { IfOk result (λ due. due ≡ sum_reply self.now own.now table column.now pred.now) }
-        ensures memory { OnErr result (IsTrue (may_want_memory (sum_reply self.now own.now table column.now pred.now))) }
+        ensures memory { OnErr result (
+            IsTrue (may_want_memory (sum_reply self.now own.now table column.now pred.now))) }
     {
         let columns = self.columns(table);
         if let Some(column) = find_sum_misfit(1, column, columns) {
@@ -467,7 +468,8 @@ impl TableState {
     fn scan_answer(&self, session: u8, name: &Name, pred: &Option<Pred>) -> Result<Reply, NoMemory>
         requires { session ≤ 16 }
         ensures due { IfOk result (λ due. due ≡ answer self.now session (call.Scan name.now pred.now)) }
-        ensures memory { OnErr result (IsTrue (may_want_memory (answer self.now session (call.Scan name.now pred.now)))) }
+        ensures memory { OnErr result (
+            IsTrue (may_want_memory (answer self.now session (call.Scan name.now pred.now)))) }
     {
         let Some(own) = self.transaction(session) else {
             return Ok(Reply::NoTxn);
@@ -481,7 +483,8 @@ impl TableState {
     fn count_answer(&self, session: u8, name: &Name, pred: &Option<Pred>) -> Result<Reply, NoMemory>
         requires { session ≤ 16 }
         ensures due { IfOk result (λ due. due ≡ answer self.now session (call.Count name.now pred.now)) }
-        ensures memory { OnErr result (IsTrue (may_want_memory (answer self.now session (call.Count name.now pred.now)))) }
+        ensures memory { OnErr result (
+            IsTrue (may_want_memory (answer self.now session (call.Count name.now pred.now)))) }
     {
         let Some(own) = self.transaction(session) else {
             return Ok(Reply::NoTxn);
@@ -501,7 +504,8 @@ impl TableState {
     ) -> Result<Reply, NoMemory>
         requires { session ≤ 16 }
         ensures due { IfOk result (λ due. due ≡ answer self.now session (call.Sum name.now column.now pred.now)) }
-        ensures memory { OnErr result (IsTrue (may_want_memory (answer self.now session (call.Sum name.now column.now pred.now)))) }
+        ensures memory { OnErr result (
+            IsTrue (may_want_memory (answer self.now session (call.Sum name.now column.now pred.now)))) }
     {
         let Some(own) = self.transaction(session) else {
             return Ok(Reply::NoTxn);

@@ -53,7 +53,10 @@ impl Transaction {
     }
 
     pub(crate) fn put(&mut self, created: CreatedRow, ended: Option<RowKey>) -> Result<(), NoMemory>
-        ensures ok { OnOk result (self.new ≡ record self.old { writes = with_created created (option_map_or (λ key. with_ended key self.old.writes) ended self.old.writes) }) }
+        ensures ok { OnOk result (self.new ≡ record self.old {
+          writes = with_created created
+              (option_map_or (λ key. with_ended key self.old.writes) ended self.old.writes);
+        }) }
         ensures err { OnErr result (self.new ≡ self.old) }
     {
         self.writes.put(created, ended)
@@ -107,7 +110,8 @@ pub(crate) fn find_read<'a>(
     table: usize,
     row: u32,
 ) -> Option<&'a CreatedRow>
-    ensures { option_copied result ≡ find (λ created. is_key_of table row created.key) (created_rows (read.now ++ own.now.writes ∷ [])) }
+    ensures { option_copied result ≡ find (λ created. is_key_of table row created.key) (created_rows (read.now ++
+        own.now.writes ∷ [])) }
 {
     match find_in(read, table, row) {
         Some(created) => Some(created),

@@ -118,7 +118,8 @@ impl WriteSet {
 
     /// Adds a created row, and an ended one if there is one.
     pub(crate) fn put(&mut self, created: CreatedRow, ended: Option<RowKey>) -> Result<(), NoMemory>
-        ensures ok { OnOk result (self.new ≡ with_created created (option_map_or (λ key. with_ended key self.old) ended self.old)) }
+        ensures ok { OnOk result (self.new ≡ with_created created
+            (option_map_or (λ key. with_ended key self.old) ended self.old)) }
         ensures err { OnErr result (self.new ≡ self.old) }
     {
         self.created.reserve(1)?;
@@ -177,7 +178,8 @@ pub(crate) fn later_row(rows: &[CreatedRow], row: &CreatedRow) -> Option<usize>
 
 /// Where a created row goes among rows in order.
 pub(crate) fn place_of_row(rows: &[CreatedRow], row: &CreatedRow) -> usize
-    ensures place { result ≡ unwrap_or (position_from (λ other. is_before row.now.key other.key) 0 rows.now) (length rows.now) }
+    ensures place { result ≡ unwrap_or (position_from (λ other. is_before row.now.key other.key) 0 rows.now)
+        (length rows.now) }
     ensures within { result ≤ length rows.now }
 {
     match later_row(rows, row) {

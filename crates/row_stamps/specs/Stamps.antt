@@ -21,5 +21,7 @@ pub record IsLeft (commits : List Commit) (row : ℕ) : Type 0 where
 
 -- the stamps say which commit creates the row and which ends it, if any does
 pub record AreStampsOf (commits : List Commit) (row created ended : ℕ) : Type 0 where
-  pub created_by : (k : ℕ) (commit : Commit) → slice_get commits k ≡ Some commit → Contains commit.created row ↔ (created ≡ k + 1)
-  pub ended_by : (k : ℕ) (commit : Commit) → slice_get commits k ≡ Some commit → Contains commit.ended row ↔ (ended ≡ k + 1)
+  pub created_by : (k : ℕ) (commit : Commit) → slice_get commits k ≡ Some commit → Contains commit.created row
+      ↔ (created ≡ k + 1)
+  pub ended_by : (k : ℕ) (commit : Commit) → slice_get commits k ≡ Some commit → Contains commit.ended row
+      ↔ (ended ≡ k + 1)

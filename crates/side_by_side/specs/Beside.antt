@@ -1,6 +1,6 @@
 -- When the law of a change gives the law of its plan beside others.
 use Rattle.std.specs.Prelude.{◌≡◌, ℕ, ◌<◌, Bool, List, length}
-use Rattle.pm_model.specs.Changes.{Change, AreSameAt}
+use Rattle.pm_model.specs.Changes.{Change, AreSameAt, HoldsOnWords}
 use Rattle.side_by_side.specs.SideBySide.{without}
 
 -- words that have P, and are the base's at these places, have what the change reads of the base
@@ -21,3 +21,13 @@ abbrev pub EndGives : Change → ℕ → (P Q : (ℕ → ℕ) → List ℕ → T
 EndGives c session P Q base =
     (left : ℕ → ℕ) (words image : List ℕ) → c.reads base words → P (without session left) words
     → left session ≡ 0 → c.ends words image → Q left image
+
+-- The change has its law on words and is asked of these words; what it reads stands at these places or follows from P,
+-- and what its cuts and its end show gives Q.
+pub record IsKeptBeside (c : Change) (session : ℕ) (P Q : (ℕ → ℕ) → List ℕ → Type 0) (places : ℕ → Bool) (base : List ℕ) :
+    Type 0 where
+  pub law : HoldsOnWords c
+  pub asked : c.asks base
+  pub rests : RestsOn c session P places base
+  pub cuts : CutsGive c session P Q base
+  pub end : EndGives c session P Q base

@@ -10,7 +10,8 @@ use Rattle.txn_object.specs.Entries.{entry_word, entry_of}
 abbrev pub entries_from : List ℕ → ℕ → ℕ → ℕ → List Entry
 entries_from words object nth zero = []
 entries_from words object nth (suc places) =
-    if slice_index words (entry_at object nth) == 0 then [] else entry_of (slice_index words (entry_at object nth)) ∷ entries_from words object (nth + 1) places
+    if slice_index words (entry_at object nth) == 0 then []
+    else entry_of (slice_index words (entry_at object nth)) ∷ entries_from words object (nth + 1) places
 
 -- the entries of an object, in order, up to the first word that is 0
 unfoldable pub entries_in : List ℕ → ℕ → List Entry
@@ -19,7 +20,8 @@ entries_in words object = entries_from words object 0 60
 -- how many of the first entry words of an object are 0
 abbrev pub free_among : List ℕ → ℕ → ℕ → ℕ
 free_among words object zero = 0
-free_among words object (suc places) = free_among words object places + (if slice_index words (entry_at object places) == 0 then 1 else 0)
+free_among words object (suc places) = free_among words object places
+    + (if slice_index words (entry_at object places) == 0 then 1 else 0)
 
 -- how many entry words of an object are 0
 unfoldable pub free_entries_in : List ℕ → ℕ → ℕ
@@ -39,7 +41,8 @@ entry_clears object entries = map (λ nth. store (entry_at object nth) 0) (range
 
 -- the same, and then over the commit word where it is set
 unfoldable pub clear_part : ℕ → ℕ → Bool → Part
-clear_part object entries word = entry_clears object entries ++ (if word then one_store (commit_word_at object) 0 else [])
+clear_part object entries word = entry_clears object entries
+    ++ (if word then one_store (commit_word_at object) 0 else [])
 
 -- a retire: the object is idle, and then its entries and its commit word are cleared
 abbrev pub retire_parts : ℕ → ℕ → Bool → List Part
@@ -51,4 +54,5 @@ abbrev pub clear_length : ℕ → Bool → ℕ
 clear_length entries word = entries + (if word then 1 else 0) + (entries + 3) / 8 + 2
 
 abbrev pub retire_length : ℕ → Bool → ℕ
-retire_length entries word = 3 + (if word then clear_length entries word else if entries == 0 then 0 else clear_length entries word)
+retire_length entries word = 3 + (if word then clear_length entries word
+    else if entries == 0 then 0 else clear_length entries word)

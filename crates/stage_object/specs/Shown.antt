@@ -24,7 +24,8 @@ pub record HasObject (words : List ℕ) (object : ℕ) : Type 0 where
 -- no entry of the object follows a word that is 0
 abbrev pub NoEntryFollowsZero : List ℕ → ℕ → Type 0
 NoEntryFollowsZero words object =
-    (nth : ℕ) → nth + 1 < 60 → slice_index words (entry_at object nth) ≡ 0 → slice_index words (entry_at object (nth + 1)) ≡ 0
+    (nth : ℕ) → nth + 1 < 60 → slice_index words (entry_at object nth) ≡ 0
+    → slice_index words (entry_at object (nth + 1)) ≡ 0
 
 -- the object has so many entries, and this one may be the next
 pub record MayAddEntry (words : List ℕ) (object nth : ℕ) (entry : Entry) : Type 0 where
@@ -42,18 +43,22 @@ HasSameEntries old new object =
 
 -- the words that the second part of a retire clears: the first entries and, where it is set, the commit word
 abbrev pub IsCleared : ℕ → ℕ → Bool → ℕ → Type 0
-IsCleared object entries word w = ((entry_at object 0 ≤ w) × (w < entry_at object entries)) ⊎ (IsTrue word × (w ≡ commit_word_at object))
+IsCleared object entries word w = ((entry_at object 0 ≤ w) × (w < entry_at object entries))
+    ⊎ (IsTrue word × (w ≡ commit_word_at object))
 
 -- The object is idle, of the words to clear each is the old one or 0, and all other words are the old ones.
 pub record IsRetiring (old : List ℕ) (object entries : ℕ) (word : Bool) (words : List ℕ) : Type 0 where
   pub size : length words ≡ length old
   pub state : slice_index words (state_at object) ≡ 0
-  pub cleared : (w : ℕ) → IsCleared object entries word w → (slice_index words w ≡ slice_index old w) ⊎ (slice_index words w ≡ 0)
-  pub others : (w : ℕ) → w ≢ state_at object → ¬ IsCleared object entries word w → slice_index words w ≡ slice_index old w
+  pub cleared : (w : ℕ) → IsCleared object entries word w → (slice_index words w ≡ slice_index old w)
+      ⊎ (slice_index words w ≡ 0)
+  pub others : (w : ℕ) → w ≢ state_at object → ¬ IsCleared object entries word w
+      → slice_index words w ≡ slice_index old w
 
 -- The object is idle, the words to clear are 0, and all other words are the old ones.
 pub record IsRetired (old : List ℕ) (object entries : ℕ) (word : Bool) (words : List ℕ) : Type 0 where
   pub size : length words ≡ length old
   pub state : slice_index words (state_at object) ≡ 0
   pub cleared : (w : ℕ) → IsCleared object entries word w → slice_index words w ≡ 0
-  pub others : (w : ℕ) → w ≢ state_at object → ¬ IsCleared object entries word w → slice_index words w ≡ slice_index old w
+  pub others : (w : ℕ) → w ≢ state_at object → ¬ IsCleared object entries word w
+      → slice_index words w ≡ slice_index old w

@@ -52,8 +52,8 @@ abbrev pub extend_error : AllocError → ExtendError
 extend_error (HeapFull need largest) = Full need largest
 extend_error HeapNoMemory = NoMemory
 
--- The heap has no room for a segment that the object doesn't own: so many neighbouring pages are needed, and its longest
--- free run has so many.
+-- The heap has no room for a segment that the object doesn't own: so many neighbouring pages are needed, and its
+-- longest free run has so many.
 pub record HasNoRoom (words : List ℕ) (object need largest : ℕ) : Type 0 where
   pub need_is : need ≡ 1
   pub largest_is : largest ≡ longest_free_run words

@@ -8,8 +8,10 @@ ghost use Rattle.txn_object.specs.Shown.{HasObject};
 /// most 32. So it has at most 8,220 entries, one for each row that it creates or ends, and with all its segments places
 /// for as many.
 pub fn limits_law()
-    ensures places { (words : List ℕ) (object : ℕ) → length (entry_places words object) ≡ 60 + 255 * ready_count words object }
+    ensures places { (words : List ℕ) (object : ℕ) →
+        length (entry_places words object) ≡ 60 + 255 * ready_count words object }
     ensures segments { (words : List ℕ) (object : ℕ) → HasObject words object → ready_count words object ≤ 32 }
     ensures writes { (words : List ℕ) (object : ℕ) → HasObject words object → length (entries_in words object) ≤ 8220 }
-    ensures all { (words : List ℕ) (object : ℕ) → ready_count words object ≡ 32 → length (entry_places words object) ≡ 8220 }
+    ensures all { (words : List ℕ) (object : ℕ) → ready_count words object ≡ 32 →
+        length (entry_places words object) ≡ 8220 }
 {}
