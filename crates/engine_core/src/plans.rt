@@ -37,6 +37,7 @@ pub(crate) fn plan_insert(alloc: Global, nth: u32, row: u32, word: u64) -> Resul
         row,
     };
     push_entry(&mut plan, 1, nth, entry);
+    // Behind its entry: what an entry names may be stored from then on, and nothing else.
     plan.push_store(value(row), word);
     Ok(plan)
 }
@@ -68,8 +69,10 @@ pub(crate) fn plan_commit(
 {
     let mut plan = Plan::with_room(alloc, 4 * count + COMMIT_ACTIONS)?;
     push_stamps(&mut plan, first, count, number);
+    // The stamps are durable before the commit word. From here on the transaction is committed.
     plan.push_store(commit_word(0), number);
     let early = plan.len();
+    // The last commit number follows the commit word, which alone decides; opening raises it where a cut came between.
     plan.push_store(last_commit(), number);
     push_retire(&mut plan, 1, count, true);
     let late = plan.len() - early;

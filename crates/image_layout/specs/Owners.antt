@@ -167,9 +167,15 @@ lane_targets words =
 
 -- Owner words name live blocks, and no two of them one block, whatever a power cut left half done.
 pub record OwnersAreApart (words : List ℕ) : Type 0 where
+  -- an owner word that names a block names a live one, of the size that its owner needs
   pub firm : All (λ owner. IsTrue (names_one words owner) → IsTrue (owns_block words owner)) (firm_owners words)
+  -- the slot of a table that is being created is 0, or the pointer of a live block
   pub unfinished : All (λ at. slice_index words at ≢ 0 → IsTrue (is_pointer words (slice_index words at)) × Contains (map (λ block. block.first) (live_blocks words)) (place_in (slice_index words at))) (unfinished_slots words)
+  -- no two owner words name one block
   pub apart : AllPairs (NameApart words) (owner_places words)
+  -- each lane that is at work allocates into, or frees from, an owner word that may be half done
   pub targets : All (λ lane. Contains (lane_targets words) (lane_owner words lane)) (busy_lanes words)
+  -- no two of these lanes have one owner word
   pub lanes : AllPairs (λ lane other. lane_owner words lane ≢ lane_owner words other) (busy_lanes words)
+  -- and no other owner word has the pointer of a lane's block
   pub alone : All (λ lane. All (λ at. (at ≡ lane_owner words lane) ⊎ (slice_index words at ≢ lane_block words lane)) (owner_places words)) (busy_lanes words)

@@ -1,11 +1,21 @@
 //! The words of an image: where each stands, what it means, and the numbered rules that they keep.
 //!
-//! - `layout` has the sizes, `fixed` the places that every image has, `records` those of a table, a column, an array and a
-//!   segment of entries, `chunks` the sizes of an array's chunks, and `fresh` the words of a formatted image.
-//! - `heap_law` is about the live blocks and the free pages that the words of a heap say there are.
-//! - `specs/EntryRules` and `specs/SoundRules` have the numbered rules of an image, over what the files beside them say of
-//!   tables, arrays, objects, trees and owners. `fault_law`: an image has no first fault exactly where it keeps each rule.
-//! - It knows no device: `pm_model` stands above it and gives its items on.
+//! Layer: words and the device, at the bottom. It knows no device: `pm_model` stands above it and gives its items on.
+//!
+//! - `layout` has the sizes, `fixed` the places that every image has, `records` those of a table, a column, an array
+//!   and a segment of entries, `chunks` the sizes of an array's chunks, and `formatted` the words of a formatted image.
+//! - `place` has the numbers of a word and of a page, and the pointer that a word holds.
+//! - `specs/Blocks` has the live blocks and the free pages that the words of a heap say there are; `heap_law` is about
+//!   them.
+//! - `specs/EntryRules` and `specs/SoundRules` have the numbered rules of an image, over what the files beside them say
+//!   of tables, arrays, objects, trees and owners. `fault_law`: an image has no first fault exactly where it keeps each
+//!   rule.
+//!
+//! Invariants, of every pointer that is made here:
+//! 1. it is 0, or names a word of the largest image;
+//! 2. its word, read back, is the same pointer.
+//!
+//! Nothing here changes words: each call is a number, a place or a list of new words.
 #![tactic(auto)]
 
 mod chunks;

@@ -1,11 +1,19 @@
 //! The numbered rules of an image: for each rule a function that finds the place of the first word that breaks it.
 //!
-//! - `NAME_fault` gives the place of the first check of `NAME_rule` that fails, and none where the image keeps the rule.
-//!   A rule is tried after those that it relies on.
+//! Layer: what an image shows, and how it opens, above `image_layout`, whose definitions of the rules it meets.
+//! `pmem_recover` and `img_check` stand on it. It reads words and changes none.
+//!
+//! - `NAME_fault` gives the place of the first check of `NAME_rule` that fails, and none where the image keeps the
+//!   rule.
 //! - `entry_fault` tries the rules of every image that a power cut can leave, in the order of their numbers.
-//! - The rules of owner words are tried of tables, arrays and transaction objects: `built_owners_law` says that these are
-//!   all, where the tree of each column is empty.
 //! - `pointed_place`, `pointed_words` and `is_block_pointer` say what a word points to.
+//! - The rules of owner words are tried of tables, arrays and transaction objects: `built_owners_law` says that these
+//!   are all, where the tree of each column is empty.
+//!
+//! Invariants:
+//! 1. a rule is tried after those that it relies on: a call's `requires` names them;
+//! 2. within a rule the words are tried in the order of `docs/OPENING.md`, so the place is that of the first which
+//!    breaks it.
 #![tactic(auto)]
 
 mod array_rules;

@@ -1,7 +1,13 @@
 //! The soundness check: a second reader of an image, which shares nothing with the opening but the rules.
 //!
-//! - `check` tries the numbered rules of an image at rest, in their order. A yes means that each is kept; a no names the
-//!   first that is broken, and the first place at which it is.
+//! Layer: what an image shows, and how it opens, above `image_rules`. It reads words and changes none.
+//!
+//! - `check` tries the numbered rules of an image at rest, in their order. A yes means that each is kept; a no names
+//!   the first that is broken, and the first place at which it is.
+//!
+//! Invariants:
+//! 1. no rule is tried before those that it relies on are kept;
+//! 2. want of memory is no verdict: it says only which rules were kept before.
 #![tactic(auto)]
 
 mod checking;

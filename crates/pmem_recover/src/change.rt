@@ -26,6 +26,7 @@ pub(crate) fn push_needed<M: Memory>(plan: &mut Plan, mem: &M, changes: &[Change
     for done in 0..changes.len() {
         let change = changes[done];
         if word_after(mem, &changes[..done], change.place) != change.value {
+            // Each change is a part by itself: it is durable before the next one is begun.
             plan.push_store(change.place, change.value);
         }
     }

@@ -28,6 +28,7 @@ pub fn next_last<M: Memory>(
         return Ok(None);
     }
     let mut plan = Plan::with_room(alloc, CHANGE_ACTIONS)?;
+    // From here on objects with a commit word may be closed: closed before, their commits would be counted no more.
     plan.push_store(last_commit(), number);
     Ok(Some((0, plan)))
 }

@@ -56,6 +56,7 @@ pub(crate) fn push_parts<M: Memory>(
     for done in first..changes.len() {
         let change = changes[done];
         if word_after(mem, &changes[..done], change.place) != change.value {
+            // Each change is a part by itself: it is durable before the next one is begun.
             plan.push_store(change.place, change.value);
         }
     }

@@ -1,7 +1,13 @@
 //! The program `sofort`: the words of the command line, the files that they name, and the exit status.
 //!
-//! What a command does is `session_serve::run`; here real files and standard output are put under it. The file OUT is claimed
-//! before anything is read, and replaced whole (`whole_file`).
+//! Layer: the program, at the top. What a command does is `session_serve::run`; here real files and standard output are
+//! put under it.
+//!
+//! Order of work:
+//! 1. the words are read, and the file OUT is claimed, before anything is read;
+//! 2. the files are opened, and the command is run over them;
+//! 3. OUT is replaced whole (`whole_file`), at the flush of its sink;
+//! 4. a line on standard error and the status say how it ended.
 #![tactic(auto)]
 
 mod paths;
