@@ -24,7 +24,7 @@ use Rattle.engine_core.specs.StageRules.{IsStage, state_word}
 use Rattle.engine_core.specs.Served.{insert_of}
 use Rattle.mv_model.specs.View.{next_row_of}
 use Rattle.engine_core.specs.Actions.{plan_due}
-use Rattle.engine_core.specs.Decided.{IsDecided, IsFullWhere, IsRefusedWhere, IsRowBelow, TakesMemory}
+use Rattle.engine_core.specs.Decided.{IsDecided, IsFullWhere, IsNoMemoryWhere, IsRowBelow, TakesMemory}
 use Rattle.engine_core.specs.LogicalState.{commits_in, created_row, integer_of, key_of, key_word_of, rows_from, rows_of, state_by, state_of}
 use Rattle.engine_core.specs.declared.transactions.Transactions.{Transactions}
 use Rattle.engine_core.specs.declared.transactions.Running.{Running}
@@ -35,7 +35,7 @@ use Rattle.engine_core.proofs.Stores.{words_after-plan, get-stored, get-beside}
 -- a refusal, or a reading
 pub refused : (words : List ℕ) (now : Transactions) (call : Call) (given : Reply) → IsStage words now.running → IsAllowed (state_of words now) 1 call given
     → next (state_of words now) 1 call given ≡ state_of words now → IsFullWhere (state_of words now) given
-    → IsRowBelow (next_row_of (state_of words now) 0) given → [] ≡ plan_due (state_of words now) call given → IsRefusedWhere (state_of words now) call given → IsDecided words now call given [] now
+    → IsRowBelow (next_row_of (state_of words now) 0) given → [] ≡ plan_due (state_of words now) call given → IsNoMemoryWhere (state_of words now) call given → IsDecided words now call given [] now
 refused words now call given stage allowed same full below planned memory = record {
   allowed = allowed;
   parts = [];

@@ -8,7 +8,7 @@ use Rattle.mv_model.specs.declared.reply.Entry.{Entry}
 use Rattle.mv_model.specs.History.{state_after}
 use Rattle.pm_model.specs.declared.action.Action.{Action}
 use Rattle.pm_model.specs.Device.{Device, acted}
-use Rattle.engine_core.specs.Decided.{IsFullWhere, IsPlacedLate}
+use Rattle.engine_core.specs.Decided.{IsFullWhere, IsNoMemoryWhere, IsPlacedLate}
 use Rattle.engine_core.specs.LogicalState.{logical_state}
 use Rattle.engine_core.specs.CoreState.{BecomesDue, CoreState, EndsUnanswered, GetsEntryAtDecision, GetsNumber, GetsReply, IsEntered, IsNumbered, IsPlacedAt, Stays, Unplaced, answered, due, in_flight_of, pending, unanswered}
 use Rattle.engine_core.specs.Kept.{IsOnItsWay}
@@ -62,9 +62,10 @@ module _ (M : Type 0) (memory after : M) (opened : List ℕ) (history new : List
 
   pub decides-moves : (words : List ℕ) (said : Call) (given copy : Reply) (late : Option Late) (entered : Flight) (actions : List Action) → IsPlacedLate words late said given actions
       → IsEntered late said given copy history new entered → length history + 1 ≡ started → IsFullWhere (state_after (logical_state opened) history) given
+      → IsNoMemoryWhere (state_after (logical_state opened) history) said given
       → GetsEntryAtDecision (core_of memory opened history (flight.Waiting said) to_play events played started) (core_of after opened new entered left fewer more started)
       ⊎ BecomesDue (core_of memory opened history (flight.Waiting said) to_play events played started) (core_of after opened new entered left fewer more started)
-  decides-moves words said given copy None entered actions places enters count full = inl (record {
+  decides-moves words said given copy None entered actions places enters count full memory = inl (record {
     said = said;
     given = given;
     entry = record {
@@ -76,8 +77,9 @@ module _ (M : Type 0) (memory after : M) (opened : List ℕ) (history new : List
     none_due = refl;
     no_number = not_numbered words said given actions places;
     full = full;
+    memory = memory;
   })
-  decides-moves words said (reply.Committed number) copy (Some late) entered actions places enters count full =
+  decides-moves words said (reply.Committed number) copy (Some late) entered actions places enters count full memory =
       inr (record {
         was = ap Unplaced places.0;
         none_due = refl;
@@ -86,7 +88,7 @@ module _ (M : Type 0) (memory after : M) (opened : List ℕ) (history new : List
         number = late.number;
         due = ap (due (length new)) enters.1 ∙ ap (λ (h : List Entry). due (length h) (flight.Committing late.number late.left)) enters.0 ∙ ap (λ (n : ℕ). unanswered n call.Commit (reply.Committed late.number) ∷ []) count;
       })
-  decides-moves words said given copy (Some late) entered actions places enters count full = absurd places
+  decides-moves words said given copy (Some late) entered actions places enters count full memory = absurd places
 
   pub replies-moves : (given : Reply) → EndsUnanswered given history → ((front : List Entry) → (last : Entry) → history ≡ front ++ last ∷ [] → new ≡ front ++ answered last ∷ [])
       → GetsReply given (core_of memory opened history (flight.Placed given) to_play events played started) (core_of after opened new flight.Idle left fewer more started)

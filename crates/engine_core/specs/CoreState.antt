@@ -12,7 +12,7 @@ use Rattle.pm_model.specs.declared.action.Action.TheVariants.{Fence}
 use Rattle.pm_model.specs.Device.{Device, acted}
 use Rattle.image_layout.specs.Fixed.{last_at, commit_word_at}
 use Rattle.engine_core.specs.Actions.{late_in}
-use Rattle.engine_core.specs.Decided.{IsFullWhere}
+use Rattle.engine_core.specs.Decided.{IsFullWhere, IsNoMemoryWhere}
 use Rattle.engine_core.specs.LogicalState.{logical_state}
 use Rattle.engine_core.specs.declared.decision.Late.{Late}
 use Rattle.engine_core.specs.declared.flight.Flight.{Flight}
@@ -168,7 +168,8 @@ pub record Stays {M : Type 0} (before after : CoreState M) : Type 0 where
   pub history : after.history ≡ before.history
   pub due : after.due ≡ before.due
 
--- A call gets its entry at its decision; but a commit that is to have a number waits for it.
+-- A call gets its entry at its decision; but a commit that is to have a number waits for it. It is refused for want of room
+-- where there is none, and for want of memory where it takes some.
 pub record GetsEntryAtDecision {M : Type 0} (before after : CoreState M) : Type 0 where
   pub said : Call
   pub given : Reply
@@ -176,6 +177,7 @@ pub record GetsEntryAtDecision {M : Type 0} (before after : CoreState M) : Type 
   pub none_due : before.due ≡ []
   pub no_number : IsNumbered given → ⊥
   pub full : IsFullWhere (state_after (logical_state before.opened) before.history) given
+  pub memory : IsNoMemoryWhere (state_after (logical_state before.opened) before.history) said given
 
 -- The decision of a commit that is to have a number: its entry is due from now on.
 pub record BecomesDue {M : Type 0} (before after : CoreState M) : Type 0 where

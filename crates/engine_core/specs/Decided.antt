@@ -42,9 +42,9 @@ TakesMemory state (reply.Row row) = (row < 4096) × (rows_created state < 60)
 TakesMemory state due = is_refusal due ≡ false
 
 -- Memory is refused only to a call that takes some.
-abbrev pub IsRefusedWhere : State → Call → Reply → Type 0
-IsRefusedWhere state said reply.NoMemory = TakesMemory state (answer state 1 said)
-IsRefusedWhere state said other = Unit {0}
+abbrev pub IsNoMemoryWhere : State → Call → Reply → Type 0
+IsNoMemoryWhere state said reply.NoMemory = TakesMemory state (answer state 1 said)
+IsNoMemoryWhere state said other = Unit {0}
 
 -- a row that is given has a number below this one
 abbrev pub IsRowBelow : ℕ → Reply → Type 0
@@ -61,7 +61,7 @@ pub record IsDecided (words : List ℕ) (before : Transactions) (said : Call) (g
   pub state : next (state_of words before) 1 said given ≡ state_of (words_after actions words) after
   pub stage : IsStage (words_after actions words) after.running
   pub full : IsFullWhere (state_of words before) given
-  pub memory : IsRefusedWhere (state_of words before) said given
+  pub memory : IsNoMemoryWhere (state_of words before) said given
   pub below : IsRowBelow (next_row_of (state_of (words_after actions words) after) 0) given
   pub planned : actions ≡ plan_due (state_of words before) said given
   pub short : length actions ≤ 400

@@ -5,7 +5,7 @@ use Rattle.engine_core.specs.CoreState.{Moves, Nothing, in_flight_of, pending}
 use Rattle.engine_core.specs.declared.flight.Flight.TheVariants as flight
 use Rattle.engine_core.specs.declared.flight.Step.TheVariants.{Decided}
 use Rattle.engine_core.proofs.Movements.{core_of, decides-moves}
-use Rattle.engine_core.specs.Decided.{IsFullWhere, left_of}
+use Rattle.engine_core.specs.Decided.{IsFullWhere, IsNoMemoryWhere, left_of}
 use Rattle.engine_core.specs.Kept.{IsKept}
 use Rattle.engine_core.specs.declared.flight.Flight.{Flight}
 use Rattle.engine_core.proofs.CoreSteps.{none-left, one-event}
@@ -46,9 +46,10 @@ returns-clause-event g c =
     let kept = subst (λ (l : List Action). IsKept d inside.opened.items inside.history.items inside.transactions l (flight.Waiting said) inside.events_left inside.played inside.started) (none-left left none) waiting in
     let state = state_now inside.opened.items d inside.history.items inside.transactions said inside.events_left inside.played inside.started kept in
     let full = subst (λ (s : State). IsFullWhere s decision.reply) (sym state) c.decide-decision.ensures.decided.full in
+    let memory = subst (λ (s : State). IsNoMemoryWhere s said decision.reply) (sym state) c.decide-decision.ensures.decided.memory in
     let moves = decides-moves _ inside.memory inside.memory inside.opened.items inside.history.items c.enter-entered.new.history.items (length left) (length (left_of decision.plan))
     inside.events_left (inside.events_left - 1) inside.played inside.played inside.started d.cached said decision.reply decision.copy decision.late c.enter-entered.result (left_of decision.plan)
-    c.decide-decision.ensures.late c.enter-entered.ensures.entered kept.count full in
+    c.decide-decision.ensures.late c.enter-entered.ensures.entered kept.count full memory in
     rw (← c.self.view_is, c.put_flight.ensures) (record {
       moves = subst (λ (f : Flight). Moves Decided d d
           (core_of inside.memory inside.opened.items inside.history.items f (length left) inside.events_left inside.played inside.started)
