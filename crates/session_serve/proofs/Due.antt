@@ -17,27 +17,40 @@ use Rattle.command_line.specs.declared.words.Job.{Job}
 use Rattle.command_line.specs.declared.words.Job.TheVariants as job
 use Rattle.session_serve.specs.declared.status.Status.{Status}
 use Rattle.session_serve.specs.declared.status.Status.TheVariants as status
+use Rattle.std.specs.Io.KnownBytes.{Consumes, IsAtEnd}
+use Rattle.io_edge.specs.Streams.{SinkState, SourceState}
+use Rattle.io_edge.specs.Transfer.{Loses}
 use Rattle.session_serve.specs.Runs.{AreWordsOf, EndsScript, Finishes, IsCutOff, IsDueOfFault, IsDueOfImage, IsDueOfInput, IsDueOfOpening, IsDueOfRun, IsDueOfScript, IsTooLong, Leaving, MayEnd, MayEndScript, RanScript, ReadsImage, ReadsScript, ReadsToEnd, Streams, Told, Whichever, WritesAll, WritesFront, Writing, streams}
 
 -- ── what a source told ──
 
--- it gave all that it told
-told-all : (all bytes : List ℕ) (after : Told) → ReadsToEnd (Some all) after bytes → all ≡ bytes
-told-all all bytes None read = absurd read.gave
-told-all all bytes (Some rest) read = read.gave ∙ ap (λ (rest : List ℕ). bytes ++ rest) read.end ∙ append-nil bytes
+-- what it told, and how often it has failed
+abbrev told : List ℕ → ℕ → SourceState
+told all faults = record { left = Some all; faults = faults }
 
-is_short : (all bytes : List ℕ) (after : Told) → ReadsToEnd (Some all) after bytes → nat_lt LIMIT (length all) ≡ false
-is_short all bytes after read =
-    let size : length all ≡ length bytes = ap length (told-all all bytes after read) in
+-- it gave all that it told
+told-all : (all bytes : List ℕ) (faults : ℕ) (after : SourceState) → ReadsToEnd (told all faults) after bytes → all ≡ bytes
+told-all all bytes faults after read = all_of after.left read.gave read.end
+  where
+    all_of : (left : Told) → Consumes (Some all) left bytes → IsAtEnd left → all ≡ bytes
+    all_of None gave end = absurd gave
+    all_of (Some rest) gave end = gave ∙ ap (λ (rest : List ℕ). bytes ++ rest) end ∙ append-nil bytes
+
+is_short : (all bytes : List ℕ) (faults : ℕ) (after : SourceState) → ReadsToEnd (told all faults) after bytes → nat_lt LIMIT (length all) ≡ false
+is_short all bytes faults after read =
+    let size : length all ≡ length bytes = ap length (told-all all bytes faults after read) in
     let within : length bytes ≤ LIMIT = read.within in
     grind (arith, nat_tests, size, within)
 
-is_long : (all : List ℕ) (after : Told) → IsTooLong (Some all) after → nat_lt LIMIT (length all) ≡ true
-is_long all None long = absurd long
-is_long all (Some rest) long =
-    let size : length all ≡ length long.0 + length rest = ap length long.1 ∙ length-append long.0 rest in
-    let more : length long.0 ≡ LIMIT + 1 = long.2 in
-    grind (arith, nat_tests, size, more)
+is_long : (all : List ℕ) (faults : ℕ) (after : SourceState) → IsTooLong (told all faults) after → nat_lt LIMIT (length all) ≡ true
+is_long all faults after long = longer after.left long.taken
+  where
+    longer : (left : Told) → Loses (Some all) left (λ count. count ≡ LIMIT + 1) → nat_lt LIMIT (length all) ≡ true
+    longer None taken = absurd taken
+    longer (Some rest) taken =
+        let size : length all ≡ length taken.0 + length rest = ap length taken.1 ∙ length-append taken.0 rest in
+        let more : length taken.0 ≡ LIMIT + 1 = taken.2 in
+        grind (arith, nat_tests, size, more)
 
 -- ── the claims of a list of causes ──
 
@@ -51,22 +64,22 @@ second-of false first second is claim = claim
 
 module _ (cut : Option ℕ) (given : Status) where
   -- the image was read
-  due-image : (image input words spelled : List ℕ) (after : Told) → ReadsImage (Some image) after words → AreWordsOf image spelled
+  due-image : (image input words spelled : List ℕ) (faults : ℕ) (after : SourceState) → ReadsImage (told image faults) after words → AreWordsOf image spelled
       → IsDueOfInput input (opening_fault words) cut given → IsDueOfImage image input (opening_fault spelled) cut given
-  due-image image input words spelled after read are due =
-      let is : image ≡ spelling words = told-all image read.bytes after read.read ∙ read.spelled in
+  due-image image input words spelled faults after read are due =
+      let is : image ≡ spelling words = told-all image read.bytes faults after read.read ∙ read.spelled in
       let none : first_fault image ≡ None = ap first_fault is ∙ no_fault words read.image in
       let same : words ≡ spelled = one_spelling words spelled read.image (are none).0 (sym is ∙ (are none).1) in
-      second-of (nat_lt LIMIT (length image)) _ _ (is_short image read.bytes after read.read)
+      second-of (nat_lt LIMIT (length image)) _ _ (is_short image read.bytes faults after read.read)
       (subst (λ (fault : Option ImageError). IsDueOfFault fault input (opening_fault spelled) cut given) (sym none)
       (subst (λ (words : List ℕ). IsDueOfInput input (opening_fault words) cut given) same due))
 
   -- the script was read, or refused
-  due-script : (input : List ℕ) (fault : Option Fault) (script : Result (List Line) ScriptError) (after : Told) → ReadsScript (Some input) after script
+  due-script : (input : List ℕ) (fault : Option Fault) (script : Result (List Line) ScriptError) (faults : ℕ) (after : SourceState) → ReadsScript (told input faults) after script
       → IsDueOfScript script fault cut given → IsDueOfInput input fault cut given
-  due-script input fault script after read due =
-      let is : script_of input ≡ script = ap script_of (told-all input read.bytes after read.read) ∙ read.spelled in
-      second-of (nat_lt LIMIT (length input)) _ _ (is_short input read.bytes after read.read)
+  due-script input fault script faults after read due =
+      let is : script_of input ≡ script = ap script_of (told-all input read.bytes faults after read.read) ∙ read.spelled in
+      second-of (nat_lt LIMIT (length input)) _ _ (is_short input read.bytes faults after read.read)
       (subst (λ (script : Result (List Line) ScriptError). IsDueOfScript script fault cut given) (sym is) due)
 
   -- the image was opened
@@ -85,47 +98,52 @@ due-cut : (cut : Option ℕ) (number : ℕ) → cut ≡ Some number → IsDueOfR
 due-cut None number is = cc
 due-cut (Some other) number is = tt
 
-module _ (cut : Option ℕ) (keep : Keep) (image input spelled : List ℕ) (image_out out : Told) (after : Streams) (are : AreWordsOf image spelled) where
+module _ (cut : Option ℕ) (keep : Keep) (image input spelled : List ℕ) (n k : ℕ) (image_out out : SinkState) (after : Streams) (are : AreWordsOf image spelled) where
   -- a run that was written
-  due-ran : (given : Status) (Leaves : Leaving) (Writes : Writing) → RanScript Leaves Writes (streams (Some image) (Some input) image_out out) after
+  due-ran : (given : Status) (Leaves : Leaving) (Writes : Writing) → RanScript Leaves Writes (streams (told image n) (told input k) image_out out) after
       → ((words : List ℕ) (script : List Line) (image text : List ℕ) → Leaves words script image text → (opening_fault words ≡ None) × IsDueOfRun cut given)
       → IsDueOfImage image input (opening_fault spelled) cut given
   due-ran given Leaves Writes ran tells =
       let left = tells ran.words ran.script ran.run.image ran.run.text ran.run.left in
-      due-image cut given image input ran.words spelled after.image ran.read_image are
-      (due-script cut given input (opening_fault ran.words) (Ok ran.script) after.input ran.read_script (due-opened cut given ran.words left.0 left.1))
+      due-image cut given image input ran.words spelled n after.image ran.read_image are
+      (due-script cut given input (opening_fault ran.words) (Ok ran.script) k after.input ran.read_script (due-opened cut given ran.words left.0 left.1))
 
-  due-ends : (given : Status) → EndsScript given cut keep (streams (Some image) (Some input) image_out out) after → MayEndScript image input (opening_fault spelled) cut given
+  due-ends : (given : Status) → EndsScript given cut keep (streams (told image n) (told input k) image_out out) after → MayEndScript image input (opening_fault spelled) cut given
   due-ends status.Done ends = due-ran status.Done (Finishes cut) WritesAll ends (λ words script image text left. (left.run.accepted, due-finished cut))
   due-ends status.PowerCut ends =
       due-ran status.PowerCut (IsCutOff cut keep) WritesAll ends (λ words script image text left. (left.run.accepted, due-cut cut left.number left.cut_is))
   due-ends status.WriteFault (inl ends) = due-ran status.WriteFault (Finishes cut) WritesFront ends (λ words script image text left. (left.run.accepted, due-failed cut))
   due-ends status.WriteFault (inr ends) = due-ran status.WriteFault (IsCutOff cut keep) WritesFront ends (λ words script image text left. (left.run.accepted, due-failed cut))
   due-ends (status.BadScript number rule) ends =
-      due-image cut (status.BadScript number rule) image input ends.words spelled after.image ends.read_image are
-      (due-script cut (status.BadScript number rule) input (opening_fault ends.words) _ after.input ends.read_script refl)
+      due-image cut (status.BadScript number rule) image input ends.words spelled n after.image ends.read_image are
+      (due-script cut (status.BadScript number rule) input (opening_fault ends.words) _ k after.input ends.read_script refl)
   due-ends (status.BadBytes error) ends =
-      let is : first_fault image ≡ Some error = ap first_fault (told-all image ends.0.bytes after.image ends.0.read) ∙ ends.0.fault in
-      second-of (nat_lt LIMIT (length image)) _ _ (is_short image ends.0.bytes after.image ends.0.read)
+      let is : first_fault image ≡ Some error = ap first_fault (told-all image ends.0.bytes n after.image ends.0.read) ∙ ends.0.fault in
+      second-of (nat_lt LIMIT (length image)) _ _ (is_short image ends.0.bytes n after.image ends.0.read)
       (subst (λ (fault : Option ImageError). IsDueOfFault fault input (opening_fault spelled) cut (status.BadBytes error)) (sym is) refl)
   due-ends (status.BadImage rule place) ends =
-      due-image cut (status.BadImage rule place) image input ends.words spelled after.image ends.read_image are
-      (due-script cut (status.BadImage rule place) input (opening_fault ends.words) (Ok ends.script) after.input ends.read_script
+      due-image cut (status.BadImage rule place) image input ends.words spelled n after.image ends.read_image are
+      (due-script cut (status.BadImage rule place) input (opening_fault ends.words) (Ok ends.script) k after.input ends.read_script
       (subst (λ (fault : Option Fault). IsDueOfOpening fault cut (status.BadImage rule place)) (sym ends.fault_is) refl))
-  due-ends status.InputTooLong (inl ends) = first-of (nat_lt LIMIT (length image)) _ _ (is_long image after.image ends.0) refl
+  due-ends status.InputTooLong (inl ends) = first-of (nat_lt LIMIT (length image)) _ _ (is_long image n after.image ends.0) refl
   due-ends status.InputTooLong (inr ends) =
-      due-image cut status.InputTooLong image input ends.0.0 spelled after.image ends.0.1 are
-      (first-of (nat_lt LIMIT (length input)) _ _ (is_long input after.input ends.1) refl)
+      due-image cut status.InputTooLong image input ends.0.0 spelled n after.image ends.0.1 are
+      (first-of (nat_lt LIMIT (length input)) _ _ (is_long input k after.input ends.1) refl)
   due-ends status.ReadFault ends = tt
   due-ends status.NoMemory ends = tt
   due-ends status.Usage ends = absurd ends
 
-pub due-job : (found : Option Job) (cut : Option ℕ) (keep : Keep) (given : Status) (image input image_out out image_now input_now image_out_now out_now : Told)
+pub due-job : (found : Option Job) (cut : Option ℕ) (keep : Keep) (given : Status) (image input image_now input_now : SourceState) (image_out out image_out_now out_now : SinkState)
     → found ≡ Some (job.Script cut keep)
     → EndsScript given cut keep (streams image input image_out out) (streams image_now input_now image_out_now out_now)
-    → IfSome image (λ image_bytes. IfSome input (λ input_bytes. (spelled : List ℕ) → AreWordsOf image_bytes spelled → MayEnd found image_bytes input_bytes (opening_fault spelled) given))
-due-job found cut keep given None input image_out out image_now input_now image_out_now out_now is ends = tt
-due-job found cut keep given (Some image) None image_out out image_now input_now image_out_now out_now is ends = tt
-due-job found cut keep given (Some image) (Some input) image_out out image_now input_now image_out_now out_now is ends =
-    λ spelled are. subst (λ (found : Option Job). MayEnd found image input (opening_fault spelled) given) (sym is)
-    (due-ends cut keep image input spelled image_out out (streams image_now input_now image_out_now out_now) are given ends)
+    → IfSome image.left (λ image_bytes. IfSome input.left (λ input_bytes. (spelled : List ℕ) → AreWordsOf image_bytes spelled → MayEnd found image_bytes input_bytes (opening_fault spelled) given))
+due-job found cut keep given image input image_now input_now image_out out image_out_now out_now is ends = by_told image.left input.left image.faults input.faults ends
+  where
+    by_told : (left input_left : Told) (n k : ℕ) → EndsScript given cut keep
+        (streams (record { left = left; faults = n }) (record { left = input_left; faults = k }) image_out out) (streams image_now input_now image_out_now out_now)
+        → IfSome left (λ image_bytes. IfSome input_left (λ input_bytes. (spelled : List ℕ) → AreWordsOf image_bytes spelled → MayEnd found image_bytes input_bytes (opening_fault spelled) given))
+    by_told None input_left n k ends = tt
+    by_told (Some image) None n k ends = tt
+    by_told (Some image) (Some input) n k ends =
+        λ spelled are. subst (λ (found : Option Job). MayEnd found image input (opening_fault spelled) given) (sym is)
+        (due-ends cut keep image input spelled n k image_out out (streams image_now input_now image_out_now out_now) are given ends)

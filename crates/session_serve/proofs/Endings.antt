@@ -18,13 +18,13 @@ use Rattle.engine_core.specs.Recoverable.{IsRecoverable, MayRecoverTo, undecided
 use Rattle.script_text.specs.declared.script.Line.{Line}
 use Rattle.script_text.specs.Printed.{history_text}
 use Rattle.script_text.specs.Script.{statements_of}
-use Rattle.session_serve.specs.Moments.{AreFullWhere, IsFirstAt, IsFrontOf, IsRun, IsUncut, calls_of}
+use Rattle.session_serve.specs.Moments.{AreWantingWhere, IsFirstAt, IsFrontOf, IsRun, IsUncut, calls_of}
 use Rattle.session_serve.specs.declared.playing.Ending.{Ending}
 use Rattle.session_serve.specs.declared.playing.Ending.TheVariants as ending
 use Rattle.session_serve.specs.Parts.{LeavesBy, kept_by}
 use Rattle.session_serve.specs.Playing.{said_in, EndsLines, IsBefore, IsCounted, IsFresh, IsInCall, StopsAtOnce, StopsInLine, moment_of}
 use Rattle.session_serve.specs.Runs.{Finishes, IsCutOff}
-use Rattle.session_serve.proofs.Lines.{full-more, same-more, statements_of-append}
+use Rattle.session_serve.proofs.Lines.{wanting-more, same-more, statements_of-append}
 
 -- what a core tells at any moment
 pub record IsKnown {M : Type 0} (d : Device) (core : CoreState M) : Type 0 where
@@ -84,24 +84,24 @@ last-call opened said front history due Last some in_call (inl none) more = reco
 last-call opened said front history due Last some in_call (inr commit) more = absurd (last-unplaced call.Commit commit.0)
 
 -- and those that have a place were refused for want of room where there is none
-full-in_call : (opened : State) (said : Call) (front history : List Entry) (in_flight : InFlight) → in_flight ≢ Nothing
-    → IsInCall opened said front in_flight history → AreFullWhere opened front → AreFullWhere opened history
-full-in_call opened said front history Nothing some in_call full = absurd (some refl)
-full-in_call opened said front history (Unplaced other) some in_call full = subst (AreFullWhere opened) (sym in_call.1) full
-full-in_call opened said front history Last some in_call full = subst (AreFullWhere opened) (sym in_call.is) (full-more opened front in_call.entry full in_call.full)
+wanting-in_call : (opened : State) (said : Call) (front history : List Entry) (in_flight : InFlight) → in_flight ≢ Nothing
+    → IsInCall opened said front in_flight history → AreWantingWhere opened front → AreWantingWhere opened history
+wanting-in_call opened said front history Nothing some in_call wanting = absurd (some refl)
+wanting-in_call opened said front history (Unplaced other) some in_call wanting = subst (AreWantingWhere opened) (sym in_call.1) wanting
+wanting-in_call opened said front history Last some in_call wanting = subst (AreWantingWhere opened) (sym in_call.is) (wanting-more opened front in_call.entry wanting in_call.wanting)
 
 module _ {M : Type 0} (words : List ℕ) (e : Device) (before after : CoreState M) (come : HasCome words e before after) where
   run-at : (script : List Line) (number : ℕ) → after.played ≡ number → IsCounted after
       → ((session : ℕ) → IsFrontOf (calls_of session (after.history ++ after.due)) (statements_of session script))
-      → AreFullWhere (logical_state after.opened) after.history
+      → AreWantingWhere (logical_state after.opened) after.history
       → IsRun words script number (moment_of e after)
-  run-at script number reached counted said full = record {
+  run-at script number reached counted said wanting = record {
     accepted = come.accepted;
     opened = come.same ∙ come.opened;
     legal = come.known.legal;
     legal_due = come.known.legal_due;
     said = said;
-    full = full;
+    wanting = wanting;
     due_is = come.known.due_at;
     counted = subst (λ (played : ℕ). played + after.to_play ≡ length (plan_in (logical_state after.opened) (after.history ++ after.due))) reached counted;
     device = subst (λ (played : ℕ). e ≡ run 1 (take played (plan_in (logical_state after.opened) (after.history ++ after.due))) (at_rest after.opened)) reached come.known.device;
@@ -123,7 +123,7 @@ module _ {M : Type 0} (words : List ℕ) (e : Device) (before after : CoreState 
         played = after.played;
         run = run-at script after.played refl ran.counted
             (λ session. ([], sym (append-nil (calls_of session (after.history ++ after.due)) ∙ ap (calls_of session) decided ∙ ran.said session)))
-            ran.full;
+            ran.wanting;
         finished = record {
           said = ran.said;
           answered = ran.answered;
@@ -143,7 +143,7 @@ module _ {M : Type 0} (words : List ℕ) (e : Device) (before after : CoreState 
       let none : after.history ++ after.due ≡ [] = ap (λ (history : List Entry). history ++ after.due) stops.fresh.history ∙ stops.fresh.due in (
         run-at script number (stops.fresh.played ∙ sym stops.none) stops.counted
             (λ session. (statements_of session script, sym (ap (λ (entries : List Entry). calls_of session entries ++ statements_of session script) none)))
-            (subst (AreFullWhere (logical_state after.opened)) (sym stops.fresh.history) tt),
+            (subst (AreWantingWhere (logical_state after.opened)) (sym stops.fresh.history) tt),
         inl (stops.none, stops.some, none),
       )
 
@@ -165,7 +165,7 @@ module _ {M : Type 0} (words : List ℕ) (e : Device) (before after : CoreState 
                   ∙ ap (λ (calls : List Call). calls ++ statements_of session stops.rest)
                   (sym (ap (calls_of session) last.is ∙ same-more session stops.so_far stops.line stops.front last.entry stops.built last.session last.call (stops.said session))),
             ))
-            (full-in_call opened (said_in stops.line) stops.front after.history after.in_flight stops.in_flight stops.in_call stops.full),
+            (wanting-in_call opened (said_in stops.line) stops.front after.history after.in_flight stops.in_flight stops.in_call stops.wanting),
         inr (record { front = stops.front; last = last.entry; is = last.is; given_before = stops.answered; open_still = last.open_still; before = stops.before }),
       )
 

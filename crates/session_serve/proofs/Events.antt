@@ -8,12 +8,12 @@ use Rattle.mv_model.specs.declared.reply.Entry.{Entry}
 use Rattle.mv_model.specs.State.{State}
 use Rattle.mv_model.specs.History.{state_after}
 use Rattle.pm_model.specs.Device.{Device}
-use Rattle.engine_core.specs.Decided.{IsFullWhere}
 use Rattle.engine_core.specs.CoreState.{CoreState, InFlight, Nothing, Unplaced, Last, GetsEntry, IsEvent, Moves, Stays, actions_of, answered, unanswered}
 use Rattle.engine_core.specs.declared.flight.Step.{Step}
 use Rattle.engine_core.specs.declared.flight.Step.TheVariants.{Played, Decided, Blocked, Replied}
 use Rattle.engine_core.specs.LogicalState.{logical_state}
 use Rattle.mv_model.specs.declared.reply.Reply.TheVariants as reply
+use Rattle.session_serve.specs.Moments.{IsWantingWhere}
 use Rattle.session_serve.specs.Playing.{HasEntry, IsBefore, IsInCall, WasGiven, WasNotGiven}
 
 -- ── the call in flight ──
@@ -27,15 +27,15 @@ in_call-same opened said front was now before after same_flight same_history is 
 -- a call that has no place yet gets its entry
 in_call-entered : (opened : State) (said other : Call) (given : Reply) (ordinal : ℕ) (front before after : List Entry)
     → IsInCall opened said front (Unplaced other) before → after ≡ before ++ unanswered ordinal other given ∷ []
-    → IsFullWhere (state_after opened front) given → IsInCall opened said front Last after
-in_call-entered opened said other given ordinal front before after is gets full =
+    → IsWantingWhere (state_after opened front) (unanswered ordinal other given) → IsInCall opened said front Last after
+in_call-entered opened said other given ordinal front before after is gets wanting =
     record {
       entry = unanswered ordinal other given;
       is = gets ∙ ap (λ (entries : List Entry). entries ++ unanswered ordinal other given ∷ []) is.1;
       session = refl;
       call = is.0;
       given = refl;
-      full = full;
+      wanting = wanting;
     }
 
 -- the reply of the last entry is given
@@ -49,17 +49,19 @@ in_call-replied opened said front before after kept last is was now =
       session = ap (λ (entry : Entry). entry.session) same.1 ∙ is.session;
       call = ap (λ (entry : Entry). entry.call) same.1 ∙ is.call;
       given = refl;
-      full = subst (λ (entry : Entry). IsFullWhere (state_after opened front) entry.reply) (sym same.1) is.full;
+      wanting =
+          let kept : IsWantingWhere (state_after opened front) last = subst (λ (entry : Entry). IsWantingWhere (state_after opened front) entry) (sym same.1) is.wanting in
+          record { room = kept.room; memory = kept.memory };
     }
 
 module _ {M : Type 0} where
   in_call-gets : (opened : State) (said other : Call) (given : Reply) (front : List Entry) (before after : CoreState M) → GetsEntry other given before after
-      → IsInCall opened said front before.in_flight before.history → (before.history ≡ front → IsFullWhere (state_after opened front) given)
+      → IsInCall opened said front before.in_flight before.history → (before.history ≡ front → IsWantingWhere (state_after opened front) (unanswered before.started other given))
       → IsInCall opened said front after.in_flight after.history
-  in_call-gets opened said other given front before after gets is full =
+  in_call-gets opened said other given front before after gets is wanting =
       let unplaced : IsInCall opened said front (Unplaced other) before.history = subst (λ (in_flight : InFlight). IsInCall opened said front in_flight before.history) gets.was is in
       subst (λ (in_flight : InFlight). IsInCall opened said front in_flight after.history) (sym gets.now)
-      (in_call-entered opened said other given before.started front before.history after.history unplaced gets.history (full unplaced.1))
+      (in_call-entered opened said other given before.started front before.history after.history unplaced gets.history (wanting unplaced.1))
 
   -- an event takes the call in flight on
   pub in_call-event : (step : Step) (d e : Device) (said : Call) (front : List Entry) (opened : List ℕ) (before after : CoreState M) → IsEvent step d e before after
@@ -69,11 +71,12 @@ module _ {M : Type 0} where
     where
       moved : (step : Step) → Moves step d e before after → IsInCall (logical_state opened) said front after.in_flight after.history
       moved Played (inl stays) = in_call-same (logical_state opened) said front _ _ _ _ stays.in_flight stays.history is
-      moved Played (inr gets) = in_call-gets (logical_state opened) said call.Commit (reply.Committed gets.number) front before after gets.entry is (λ e. tt)
+      moved Played (inr gets) = in_call-gets (logical_state opened) said call.Commit (reply.Committed gets.number) front before after gets.entry is (λ e. record { room = tt; memory = tt })
       moved Decided (inl gets) =
           in_call-gets (logical_state opened) said gets.said gets.given front before after gets.entry is
-          (λ was. subst (λ (words : List ℕ). IsFullWhere (state_after (logical_state words) front) gets.given) same
-          (subst (λ (entries : List Entry). IsFullWhere (state_after (logical_state before.opened) entries) gets.given) was gets.full))
+          (λ was. subst (λ (words : List ℕ). IsWantingWhere (state_after (logical_state words) front) (unanswered before.started gets.said gets.given)) same
+          (subst (λ (entries : List Entry). IsWantingWhere (state_after (logical_state before.opened) entries) (unanswered before.started gets.said gets.given)) was
+          (record { room = gets.full; memory = gets.memory })))
       moved Decided (inr due) = in_call-same (logical_state opened) said front _ _ _ _ due.in_flight due.history is
       moved (Blocked holder) none = absurd none
       moved (Replied given) gets =

@@ -12,7 +12,6 @@ use Rattle.mv_model.specs.State.{State}
 use Rattle.mv_model.specs.Next.{next}
 use Rattle.mv_model.specs.History.{entries_of, state_after}
 use Rattle.engine_core.specs.Actions.{plan_in}
-use Rattle.engine_core.specs.Decided.{IsFullWhere}
 use Rattle.engine_core.specs.CoreState.{CoreState, InFlight}
 use Rattle.engine_core.specs.LogicalState.{logical_state}
 use Rattle.engine_core.specs.Served.{is_served}
@@ -20,7 +19,7 @@ use Rattle.script_text.specs.declared.script.Line.{Line}
 use Rattle.script_text.specs.declared.script.Line.TheVariants as line
 use Rattle.built_calls.specs.Built.{is_built}
 use Rattle.script_text.specs.Script.{IsBuiltLine, asked_by, statements_of}
-use Rattle.session_serve.specs.Moments.{AreFullWhere, calls_of}
+use Rattle.session_serve.specs.Moments.{AreWantingWhere, IsWantingWhere, calls_of}
 use Rattle.session_serve.specs.declared.playing.Ending.TheVariants as ending
 use Rattle.session_serve.specs.Playing.{said_in, EndsCall, HasEntry, HasRun, IsBefore, IsCounted, IsFresh, IsInCall, StopsInLine, WasGiven}
 
@@ -73,9 +72,9 @@ same-more session lines next history entry built is_one is_said same =
     ∙ ap (λ (calls : List Call). statements_of session lines ++ calls) (same-one session next entry built is_one is_said)
     ∙ sym (statements_of-append session lines (next ∷ []))
 
-pub full-more : (state : State) (entries : List Entry) (entry : Entry) → AreFullWhere state entries → IsFullWhere (state_after state entries) entry.reply → AreFullWhere state (entries ++ entry ∷ [])
-full-more state [] entry full last = (last, tt)
-full-more state (first ∷ entries) entry full last = (full.0, full-more (next state first.session first.call first.reply) entries entry full.1 last)
+pub wanting-more : (state : State) (entries : List Entry) (entry : Entry) → AreWantingWhere state entries → IsWantingWhere (state_after state entries) entry → AreWantingWhere state (entries ++ entry ∷ [])
+wanting-more state [] entry all last = (last, tt)
+wanting-more state (first ∷ entries) entry all last = (all.0, wanting-more (next state first.session first.call first.reply) entries entry all.1 last)
 
 pub given-more : (entries : List Entry) (entry : Entry) → All WasGiven entries → WasGiven entry → All WasGiven (entries ++ entry ∷ [])
 given-more entries entry all last = All-append WasGiven entries (entry ∷ []) all (All-cons WasGiven entry [] last (All-nil WasGiven))
@@ -117,8 +116,8 @@ module _ {M : Type 0} where
         started = omega (arith, started, ran.started, size);
         said = λ session. ap (calls_of session) got.is ∙ same-more session lines next before.history got.entry built got.session got.call (ran.said session);
         answered = subst (λ (entries : List Entry). All WasGiven entries) (sym got.is) (given-more before.history got.entry ran.answered got.given);
-        full = subst (λ (words : List ℕ). AreFullWhere (logical_state words) after.history) (sym opened)
-            (subst (λ (entries : List Entry). AreFullWhere (logical_state before.opened) entries) (sym got.is) (full-more (logical_state before.opened) before.history got.entry ran.full got.full));
+        wanting = subst (λ (words : List ℕ). AreWantingWhere (logical_state words) after.history) (sym opened)
+            (subst (λ (entries : List Entry). AreWantingWhere (logical_state before.opened) entries) (sym got.is) (wanting-more (logical_state before.opened) before.history got.entry ran.wanting got.wanting));
       }
 
   -- what the answered calls have played
@@ -146,7 +145,7 @@ module _ {M : Type 0} where
         front = before.history;
         said = ran.said;
         answered = ran.answered;
-        full = subst (λ (words : List ℕ). AreFullWhere (logical_state words) before.history) (sym opened) ran.full;
+        wanting = subst (λ (words : List ℕ). AreWantingWhere (logical_state words) before.history) (sym opened) ran.wanting;
         in_call = subst (λ (words : List ℕ). IsInCall (logical_state words) (said_in next) before.history after.in_flight after.history) (sym opened) in_call;
         in_flight = ends.0;
         counted = counted;
@@ -164,5 +163,5 @@ module _ {M : Type 0} where
     started = fresh.started;
     said = λ session. ap (calls_of session) fresh.history;
     answered = subst (λ (entries : List Entry). All WasGiven entries) (sym fresh.history) (All-nil WasGiven);
-    full = subst (λ (entries : List Entry). AreFullWhere (logical_state core.opened) entries) (sym fresh.history) tt;
+    wanting = subst (λ (entries : List Entry). AreWantingWhere (logical_state core.opened) entries) (sym fresh.history) tt;
   }

@@ -7,10 +7,11 @@ use Rattle.session_serve.specs.declared.playing.Ending.TheVariants as ending
 use Rattle.session_serve.specs.declared.status.Status.{Status}
 use Rattle.session_serve.specs.declared.status.Status.TheVariants as status
 use Rattle.session_serve.specs.Parts.{IsNoImage, IsNoScript, IsWritten, LeavesBy, RanWords, Takes}
-use Rattle.session_serve.specs.Runs.{EndsFormat, EndsScript, Leaving, ReadsImage, ReadsScript, Streams, TakesInput, Told, Writing, WhenWritten, WrittenRun, streams}
+use Rattle.session_serve.specs.Runs.{EndsScript, Outputs, ReadsImage, ReadsScript, TakesInput, Told, outputs, streams}
+use Rattle.io_edge.specs.Streams.{SinkState, SourceState}
 
 -- a run was written
-pub ran-words : (given : Status) (end : Ending) (cut : Option ℕ) (keep : Keep) (words : List ℕ) (script : List Line) (before after : Streams) (image text : List ℕ)
+pub ran-words : (given : Status) (end : Ending) (cut : Option ℕ) (keep : Keep) (words : List ℕ) (script : List Line) (before after : Outputs) (image text : List ℕ)
     → LeavesBy end cut keep words script image text → IsWritten end given before after image text → RanWords given cut keep words script before after
 ran-words status.Done end cut keep words script before after image text left written =
     record { image = image; text = text; left = subst (λ (end : Ending). LeavesBy end cut keep words script image text) written.0 left; written = written.1 }
@@ -28,12 +29,12 @@ ran-words status.ReadFault end cut keep words script before after image text lef
 ran-words status.NoMemory end cut keep words script before after image text left written = absurd written
 ran-words status.InputTooLong end cut keep words script before after image text left written = absurd written
 
-module _ (cut : Option ℕ) (keep : Keep) (image image_now input input_now image_out image_out_now out out_now : Told) where
+module _ (cut : Option ℕ) (keep : Keep) (image image_now input input_now : SourceState) (image_out image_out_now out out_now : SinkState) where
   -- no image was read, and the input was left alone
   pub ends-no_image : (given : Status) → IsNoImage given image image_now → EndsScript given cut keep (streams image input image_out out) (streams image_now input image_out out)
   ends-no_image (status.BadBytes error) is = (is, refl)
-  ends-no_image status.ReadFault is = inl refl
-  ends-no_image status.NoMemory is = inl refl
+  ends-no_image status.ReadFault is = inl (is, refl)
+  ends-no_image status.NoMemory is = inl (is, refl)
   ends-no_image status.InputTooLong is = inl (is, refl)
   ends-no_image status.Done is = absurd is
   ends-no_image status.Usage is = absurd is
@@ -46,8 +47,8 @@ module _ (cut : Option ℕ) (keep : Keep) (image image_now input input_now image
   pub ends-no_script : (given : Status) (words : List ℕ) → ReadsImage image image_now words → IsNoScript given input input_now
       → EndsScript given cut keep (streams image input image_out out) (streams image_now input_now image_out out)
   ends-no_script (status.BadScript number rule) words read is = record { words = words; read_image = read; read_script = is }
-  ends-no_script status.ReadFault words read is = inr (words, read)
-  ends-no_script status.NoMemory words read is = inr (words, read)
+  ends-no_script status.ReadFault words read is = inr ((words, read), is)
+  ends-no_script status.NoMemory words read is = inr ((words, read), is)
   ends-no_script status.InputTooLong words read is = inr ((words, read), is)
   ends-no_script status.Done words read is = absurd is
   ends-no_script status.Usage words read is = absurd is
@@ -58,7 +59,7 @@ module _ (cut : Option ℕ) (keep : Keep) (image image_now input input_now image
 
   -- both were read, and the script was run over the image
   module _ (words : List ℕ) (script : List Line) (read : ReadsImage image image_now words) (said : ReadsScript input input_now (Ok script)) where
-    pub ends-ran : (given : Status) → RanWords given cut keep words script (streams None None image_out out) (streams None None image_out_now out_now)
+    pub ends-ran : (given : Status) → RanWords given cut keep words script (outputs image_out out) (outputs image_out_now out_now)
         → EndsScript given cut keep (streams image input image_out out) (streams image_now input_now image_out_now out_now)
     ends-ran status.Done ran = record {
       words = words;
@@ -89,26 +90,12 @@ module _ (cut : Option ℕ) (keep : Keep) (image image_now input input_now image
       run = record { image = ran.image; text = ran.text; left = ran.left; written = ran.written };
     })
     ends-ran (status.BadImage rule place) ran = record { words = words; script = script; read_image = read; read_script = said; fault_is = ran }
-    ends-ran status.NoMemory ran = inr (words, read)
+    ends-ran status.NoMemory ran = inr ((words, read), said.read.kept)
     ends-ran status.Usage ran = absurd ran
     ends-ran (status.BadScript number rule) ran = absurd ran
     ends-ran (status.BadBytes error) ran = absurd ran
     ends-ran status.ReadFault ran = absurd ran
     ends-ran status.InputTooLong ran = absurd ran
-
-  -- formatting leaves the other streams alone
-  pub ends-format : (given : Status) (segments : ℕ) → EndsFormat given segments (streams None None image_out None) (streams None None image_out_now None)
-      → EndsFormat given segments (streams image input image_out out) (streams image input image_out_now out)
-  ends-format status.Done segments is = is
-  ends-format status.WriteFault segments is = is
-  ends-format status.NoMemory segments is = tt
-  ends-format status.Usage segments is = absurd is
-  ends-format (status.BadScript number rule) segments is = absurd is
-  ends-format (status.BadBytes error) segments is = absurd is
-  ends-format (status.BadImage rule place) segments is = absurd is
-  ends-format status.PowerCut segments is = absurd is
-  ends-format status.ReadFault segments is = absurd is
-  ends-format status.InputTooLong segments is = absurd is
 
 -- a source that was read to its end isn't too long
 pub takes-on : {A : Type 0} (given : Status) (result : Result A Status) (value : A) (before after : Told) → result ≡ Ok value → Takes result before after → TakesInput given before after
@@ -119,14 +106,3 @@ takes-on {A} given result value (Some xs) (Some ys) is takes =
   where
     not_both : Ok value ≡ Err status.InputTooLong → ⊥
     not_both e = cc
-
--- nothing was written where nothing was read
-pub unread-image : (given : Status) (before after : Told) (claim : Type 0) → IsNoImage given before after → WhenWritten given claim
-unread-image status.Done before after claim is = absurd is
-unread-image status.PowerCut before after claim is = absurd is
-unread-image given before after claim is = tt
-
-pub unread-script : (given : Status) (before after : Told) (claim : Type 0) → IsNoScript given before after → WhenWritten given claim
-unread-script status.Done before after claim is = absurd is
-unread-script status.PowerCut before after claim is = absurd is
-unread-script given before after claim is = tt

@@ -10,7 +10,7 @@ use Rattle.pm_model.specs.Device.{Device, IsCrashImage}
 use Rattle.pm_model.specs.Plans.{at_rest, run}
 use Rattle.engine_core.specs.Actions.{plan_in}
 use Rattle.engine_core.specs.CoreState.{IsDueAt}
-use Rattle.engine_core.specs.Decided.{IsFullWhere}
+use Rattle.engine_core.specs.Decided.{IsFullWhere, IsNoMemoryWhere}
 use Rattle.engine_core.specs.LogicalState.{logical_state}
 use Rattle.engine_core.specs.Opening.{opening_fault, recovered}
 use Rattle.engine_core.specs.Recoverable.{IsRecoverable, MayRecoverTo, undecided}
@@ -42,11 +42,17 @@ calls_of session entries = map (λ entry. entry.call) (entries_of session entrie
 abbrev pub IsFrontOf : List Call → List Call → Type 0
 IsFrontOf front all = (rest : List Call) × (all ≡ front ++ rest)
 
--- each entry was refused for want of room exactly where the store has none
-abbrev pub AreFullWhere : State → List Entry → Type 0
-AreFullWhere state [] = Unit {0}
-AreFullWhere state (entry ∷ entries) =
-    IsFullWhere state entry.reply × AreFullWhere (next state entry.session entry.call entry.reply) entries
+-- the entry was refused for want of room exactly where the store has none, and for want of memory only where its call takes
+-- some: its reply is no other refusal
+pub record IsWantingWhere (state : State) (entry : Entry) : Type 0 where
+  pub room : IsFullWhere state entry.reply
+  pub memory : IsNoMemoryWhere state entry.call entry.reply
+
+-- so was each of these entries, one after the other
+abbrev pub AreWantingWhere : State → List Entry → Type 0
+AreWantingWhere state [] = Unit {0}
+AreWantingWhere state (entry ∷ entries) =
+    IsWantingWhere state entry × AreWantingWhere (next state entry.session entry.call entry.reply) entries
 
 -- The moment is one of a run of the script over the image of these words, when so many actions were played. The history is
 -- legal from the state that the opened words stand for, and the calls are those of the script. A commit is due until the
@@ -59,7 +65,7 @@ pub record IsRun (words : List ℕ) (script : List Line) (played : ℕ) (m : Mom
   pub legal : IsLegal (logical_state m.opened) m.history
   pub legal_due : IsLegal (logical_state m.opened) (decided m)
   pub said : (session : ℕ) → IsFrontOf (calls_of session (decided m)) (statements_of session script)
-  pub full : AreFullWhere (logical_state m.opened) m.history
+  pub wanting : AreWantingWhere (logical_state m.opened) m.history
   pub due_is : IsDueAt (logical_state m.opened) m.history m.due m.to_play
   pub counted : played + m.to_play ≡ length (planned m)
   pub device : m.device ≡ run 1 (take played (planned m)) (at_rest m.opened)

@@ -10,7 +10,8 @@ use Rattle.session_serve.specs.declared.playing.Ending.{Ending}
 use Rattle.session_serve.specs.declared.playing.Ending.TheVariants as ending
 use Rattle.session_serve.specs.declared.status.Status.{Status}
 use Rattle.session_serve.specs.declared.status.Status.TheVariants as status
-use Rattle.session_serve.specs.Runs.{Finishes, IsCutOff, IsTooLong, Leaving, ReadsNoImage, ReadsScript, Streams, Told, WritesAll, WritesFront, WrittenRun}
+use Rattle.session_serve.specs.Runs.{FailsToRead, Finishes, IsCutOff, IsTooLong, KeepsCount, Leaving, Outputs, ReadsNoImage, ReadsScript, Told, WritesAll, WritesFront, WrittenRun}
+use Rattle.io_edge.specs.Streams.{SourceState}
 use Rattle.script_text.specs.declared.error.ScriptError.TheVariants as script_error
 
 -- what a run leaves, by how it ended
@@ -24,19 +25,19 @@ kept_by ending.Finished keep = All
 kept_by ending.Cut keep = keep
 
 -- why the bytes of a source aren't read
-abbrev pub IsUnread : Status → Told → Told → Type 0
-IsUnread status.ReadFault before after = Unit {0}
-IsUnread status.NoMemory before after = Unit {0}
+abbrev pub IsUnread : Status → SourceState → SourceState → Type 0
+IsUnread status.ReadFault before after = FailsToRead before after
+IsUnread status.NoMemory before after = KeepsCount before after
 IsUnread status.InputTooLong before after = IsTooLong before after
 IsUnread other before after = ⊥
 
 -- why an image isn't read
-abbrev pub IsNoImage : Status → Told → Told → Type 0
+abbrev pub IsNoImage : Status → SourceState → SourceState → Type 0
 IsNoImage (status.BadBytes error) before after = ReadsNoImage before after error
 IsNoImage other before after = IsUnread other before after
 
 -- why a script isn't read
-abbrev pub IsNoScript : Status → Told → Told → Type 0
+abbrev pub IsNoScript : Status → SourceState → SourceState → Type 0
 IsNoScript (status.BadScript number rule) before after = ReadsScript before after (Err (script_error.BadLine number rule))
 IsNoScript other before after = IsUnread other before after
 
@@ -45,20 +46,15 @@ abbrev pub Takes : {A : Type 0} → Result A Status → Told → Told → Type 0
 Takes result before after =
     Loses before after (λ count. (count ≤ LIMIT + 1) × (count ≡ LIMIT + 1 → result ≡ Err status.InputTooLong))
 
--- the status of a run that ended so and was written
-abbrev pub status_of : Ending → Status
-status_of ending.Finished = status.Done
-status_of ending.Cut = status.PowerCut
-
 -- An image and a text were written as the status says: all of both, or a part where a sink failed.
-abbrev pub IsWritten : Ending → Status → Streams → Streams → List ℕ → List ℕ → Type 0
+abbrev pub IsWritten : Ending → Status → Outputs → Outputs → List ℕ → List ℕ → Type 0
 IsWritten end status.Done before after image text = (end ≡ ending.Finished) × WritesAll before after image text
 IsWritten end status.PowerCut before after image text = (end ≡ ending.Cut) × WritesAll before after image text
 IsWritten end status.WriteFault before after image text = WritesFront before after image text
 IsWritten end other before after image text = ⊥
 
 -- what a script over the image of these words has done, where it ends with this status
-abbrev pub RanWords : Status → Option ℕ → Keep → List ℕ → List Line → Streams → Streams → Type 0
+abbrev pub RanWords : Status → Option ℕ → Keep → List ℕ → List Line → Outputs → Outputs → Type 0
 RanWords status.Done cut keep words script before after = WrittenRun (Finishes cut) WritesAll words script before after
 RanWords status.PowerCut cut keep words script before after = WrittenRun (IsCutOff cut keep) WritesAll words script before after
 RanWords status.WriteFault cut keep words script before after =

@@ -6,7 +6,6 @@ use Rattle.mv_model.specs.State.{State}
 use Rattle.mv_model.specs.History.{state_after}
 use Rattle.pm_model.specs.Device.{Device}
 use Rattle.engine_core.specs.Actions.{plan_in}
-use Rattle.engine_core.specs.Decided.{IsFullWhere}
 use Rattle.engine_core.specs.CoreState.{CoreState, InFlight, Nothing, Unplaced, Last}
 use Rattle.engine_core.specs.LogicalState.{logical_state}
 use Rattle.script_text.specs.declared.script.Line.{Line}
@@ -15,7 +14,7 @@ use Rattle.mv_model.specs.declared.call.Call.TheVariants as call
 use Rattle.script_text.specs.Script.{IsBuiltLine, statements_of}
 use Rattle.session_serve.specs.declared.playing.Ending.{Ending}
 use Rattle.session_serve.specs.declared.playing.Ending.TheVariants as ending
-use Rattle.session_serve.specs.Moments.{AreFullWhere, Moment, calls_of}
+use Rattle.session_serve.specs.Moments.{AreWantingWhere, IsWantingWhere, Moment, calls_of}
 
 -- the call of a line; no await is built, so what stands here for one is never asked
 abbrev pub said_in : Line → Call
@@ -43,7 +42,7 @@ pub record HasEntry (opened : State) (said : Call) (before after : List Entry) (
   pub session : entry.session ≡ 1
   pub call : entry.call ≡ said
   pub given : IsGiven entry
-  pub full : IsFullWhere (state_after opened before) entry.reply
+  pub wanting : IsWantingWhere (state_after opened before) entry
 
 abbrev pub WasGiven : Entry → Type 0
 WasGiven entry = entry.answered ≡ true
@@ -72,7 +71,7 @@ pub record HasRun {M : Type 0} (lines : List Line) (core : CoreState M) : Type 0
   pub started : core.started ≡ length lines
   pub said : (session : ℕ) → calls_of session core.history ≡ statements_of session lines
   pub answered : All WasGiven core.history
-  pub full : AreFullWhere (logical_state core.opened) core.history
+  pub wanting : AreWantingWhere (logical_state core.opened) core.history
 
 -- the cut came within the call of a line
 pub record StopsInLine {M : Type 0} (number : ℕ) (lines : List Line) (core : CoreState M) : Type 0 where
@@ -84,7 +83,7 @@ pub record StopsInLine {M : Type 0} (number : ℕ) (lines : List Line) (core : C
   pub front : List Entry
   pub said : (session : ℕ) → calls_of session front ≡ statements_of session so_far
   pub answered : All WasGiven front
-  pub full : AreFullWhere (logical_state core.opened) front
+  pub wanting : AreWantingWhere (logical_state core.opened) front
   pub in_call : IsInCall (logical_state core.opened) (said_in line) front core.in_flight core.history
   pub in_flight : core.in_flight ≢ Nothing
   pub counted : IsCounted core

@@ -1,6 +1,8 @@
 -- What a call of `run` has done, by its status, and which statuses it may end with.
 use Rattle.std.specs.Prelude.{ℕ, ◌≡◌, ◌⊎◌, ◌+◌, ◌≤◌, ◌++◌, nat_lt, List, length, Option, None, Some, Result, Ok, Err, Bool, true, false}
 use Rattle.std.specs.Io.KnownBytes.{Appends, Consumes, IsAtEnd}
+use Rattle.io_edge.specs.Faults.{Rose, one_more}
+use Rattle.io_edge.specs.Streams.{SinkState, SourceState}
 use Rattle.io_edge.specs.Transfer.{Loses}
 use Rattle.io_edge.specs.declared.reading.TheConstants.{LIMIT}
 use Rattle.pm_model.specs.declared.action.Keep.{Keep}
@@ -28,64 +30,91 @@ use Rattle.session_serve.specs.declared.status.Status.TheVariants as status
 abbrev pub Told : Type 0
 Told = Option (List ℕ)
 
--- what the streams of a call tell at one moment
+-- the sinks of a call at one moment: that of the image, and that of the text
+pub record Outputs : Type 0 where
+  pub image : SinkState
+  pub text : SinkState
+
+abbrev pub outputs : SinkState → SinkState → Outputs
+outputs image text = record { image = image; text = text }
+
+-- the streams of a call at one moment
 pub record Streams : Type 0 where
-  pub image : Told
-  pub input : Told
-  pub image_out : Told
-  pub out : Told
+  pub image : SourceState
+  pub input : SourceState
+  pub outputs : Outputs
 
-abbrev pub streams : Told → Told → Told → Told → Streams
-streams image input image_out out =
-    record { image = image; input = input; image_out = image_out; out = out }
+abbrev pub streams : SourceState → SourceState → SinkState → SinkState → Streams
+streams image input image_out out = record { image = image; input = input; outputs = outputs image_out out }
 
--- the source was read to its end, and gave these bytes
-pub record ReadsToEnd (before after : Told) (bytes : List ℕ) : Type 0 where
-  pub gave : Consumes before after bytes
-  pub end : IsAtEnd after
+-- the source was read to its end and gave these bytes, and it has not failed
+pub record ReadsToEnd (before after : SourceState) (bytes : List ℕ) : Type 0 where
+  pub gave : Consumes before.left after.left bytes
+  pub end : IsAtEnd after.left
   pub within : length bytes ≤ LIMIT
+  pub kept : after.faults ≡ before.faults
 
--- one byte past the limit was taken
-abbrev pub IsTooLong : Told → Told → Type 0
-IsTooLong before after = Loses before after (λ count. count ≡ LIMIT + 1)
+-- one byte past the limit was taken, and the source has not failed
+pub record IsTooLong (before after : SourceState) : Type 0 where
+  pub taken : Loses before.left after.left (λ count. count ≡ LIMIT + 1)
+  pub kept : after.faults ≡ before.faults
+
+-- the source has failed
+pub record FailsToRead (before after : SourceState) : Type 0 where
+  pub rose : Rose before.faults after.faults
+  pub later : before.faults ≤ after.faults
 
 -- a part of the bytes from the front, or all of them, was appended
 abbrev pub AppendsFront : Told → Told → List ℕ → Type 0
 AppendsFront before after bytes =
     (front : List ℕ) × (rest : List ℕ) × (bytes ≡ front ++ rest) × Appends before after front
 
--- how an image and a text are written, between what the streams tell before and after
-abbrev pub Writing : Type 1
-Writing = Streams → Streams → List ℕ → List ℕ → Type 0
+-- all of the bytes were appended, and the sink was flushed once, behind the last of them; it has not failed
+pub record IsWrittenOut (before after : SinkState) (bytes : List ℕ) : Type 0 where
+  pub all : Appends before.held after.held bytes
+  pub flushed : after.flushed ≡ true
+  pub flushes : after.flushes ≡ one_more before.flushes
+  pub kept : after.faults ≡ before.faults
 
--- both are appended, each to its sink
+-- the sink has failed: a part of the bytes from the front, or all of them, was appended, and it was not flushed
+pub record FailsToWrite (before after : SinkState) (bytes : List ℕ) : Type 0 where
+  pub front : AppendsFront before.held after.held bytes
+  pub flushes : after.flushes ≡ before.flushes
+  pub rose : Rose before.faults after.faults
+  pub later : before.faults ≤ after.faults
+
+-- how an image and a text are written, between what the sinks are before and after
+abbrev pub Writing : Type 1
+Writing = Outputs → Outputs → List ℕ → List ℕ → Type 0
+
+-- both are written out, each to its sink
 abbrev pub WritesAll : Writing
 WritesAll before after image text =
-    Appends before.image_out after.image_out image × Appends before.out after.out text
+    IsWrittenOut before.image after.image image × IsWrittenOut before.text after.text text
 
--- a part of the image is appended and nothing of the text, or all of the image and a part of the text
+-- the image's sink has failed, and the text's was left alone; or the image was written out, and the text's sink has failed
 abbrev pub WritesFront : Writing
 WritesFront before after image text =
-    (AppendsFront before.image_out after.image_out image × (after.out ≡ before.out))
-    ⊎ (Appends before.image_out after.image_out image × AppendsFront before.out after.out text)
+    (FailsToWrite before.image after.image image × (after.text ≡ before.text))
+    ⊎ (IsWrittenOut before.image after.image image × FailsToWrite before.text after.text text)
 
 -- ── what was read ──
 
 -- an image was read to its end, and these are its words
-pub record ReadsImage (before after : Told) (words : List ℕ) : Type 0 where
+pub record ReadsImage (before after : SourceState) (words : List ℕ) : Type 0 where
   pub bytes : List ℕ
   pub read : ReadsToEnd before after bytes
   pub image : IsImage words
   pub spelled : bytes ≡ spelling words
 
 -- bytes were read to their end, and this is their first fault as those of an image
-pub record ReadsNoImage (before after : Told) (error : ImageError) : Type 0 where
+pub record ReadsNoImage (before after : SourceState) (error : ImageError) : Type 0 where
   pub bytes : List ℕ
   pub read : ReadsToEnd before after bytes
   pub fault : first_fault bytes ≡ Some error
 
 -- a script was read to its end, or refused
-pub record ReadsScript (before after : Told) (script : Result (List Line) ScriptError) : Type 0 where
+pub record ReadsScript (before after : SourceState) (script : Result (List Line) ScriptError) : Type 0 where
   pub bytes : List ℕ
   pub read : ReadsToEnd before after bytes
   pub spelled : script_of bytes ≡ script
@@ -121,7 +150,7 @@ pub record IsCutOff (cut : Option ℕ) (keep : Keep) (words : List ℕ) (script 
 -- ── what a call has done ──
 
 -- a script was run over the image of these words, and what it left was written
-pub record WrittenRun (Leaves : Leaving) (Writes : Writing) (words : List ℕ) (script : List Line) (before after : Streams) : Type 0 where
+pub record WrittenRun (Leaves : Leaving) (Writes : Writing) (words : List ℕ) (script : List Line) (before after : Outputs) : Type 0 where
   pub image : List ℕ
   pub text : List ℕ
   pub left : Leaves words script image text
@@ -133,7 +162,7 @@ pub record RanScript (Leaves : Leaving) (Writes : Writing) (before after : Strea
   pub script : List Line
   pub read_image : ReadsImage before.image after.image words
   pub read_script : ReadsScript before.input after.input (Ok script)
-  pub run : WrittenRun Leaves Writes words script before after
+  pub run : WrittenRun Leaves Writes words script before.outputs after.outputs
 
 -- the image was read, and the script refused
 pub record RefusedScript (number rule : ℕ) (before after : Streams) : Type 0 where
@@ -149,16 +178,20 @@ pub record RefusedImage (fault : Fault) (before after : Streams) : Type 0 where
   pub read_script : ReadsScript before.input after.input (Ok script)
   pub fault_is : opening_fault words ≡ Some fault
 
--- the script was left alone, or the image was read before it
-abbrev pub ReadsInOrder : Streams → Streams → Type 0
-ReadsInOrder before after =
-    (after.input ≡ before.input) ⊎ ((words : List ℕ) × ReadsImage before.image after.image words)
+-- an image was read to its end
+abbrev pub ReadsSomeImage : SourceState → SourceState → Type 0
+ReadsSomeImage before after = (words : List ℕ) × ReadsImage before after words
 
--- one of the inputs is too long: the image, or the script behind an image that was read
-abbrev pub HasTooLong : Streams → Streams → Type 0
-HasTooLong before after =
-    (IsTooLong before.image after.image × (after.input ≡ before.input))
-    ⊎ (((words : List ℕ) × ReadsImage before.image after.image words) × IsTooLong before.input after.input)
+-- the sources are read in their order: this holds of the image, and the script was left alone; or an image was read, and
+-- this holds of the script
+abbrev pub ReadsInOrder : (SourceState → SourceState → Type 0) → Streams → Streams → Type 0
+ReadsInOrder Holds before after =
+    (Holds before.image after.image × (after.input ≡ before.input))
+    ⊎ (ReadsSomeImage before.image after.image × Holds before.input after.input)
+
+-- the source has not failed
+abbrev pub KeepsCount : SourceState → SourceState → Type 0
+KeepsCount before after = after.faults ≡ before.faults
 
 -- what `script` has done, where it ends with this status
 abbrev pub EndsScript : Status → Option ℕ → Keep → Streams → Streams → Type 0
@@ -170,18 +203,16 @@ EndsScript (status.BadBytes error) cut keep before after =
 EndsScript (status.BadImage rule place) cut keep before after =
     RefusedImage (record { rule = rule; place = place }) before after
 EndsScript status.PowerCut cut keep before after = RanScript (IsCutOff cut keep) WritesAll before after
-EndsScript status.ReadFault cut keep before after = ReadsInOrder before after
+EndsScript status.ReadFault cut keep before after = ReadsInOrder FailsToRead before after
 EndsScript status.WriteFault cut keep before after =
     RanScript (Finishes cut) WritesFront before after ⊎ RanScript (IsCutOff cut keep) WritesFront before after
-EndsScript status.NoMemory cut keep before after = ReadsInOrder before after
-EndsScript status.InputTooLong cut keep before after = HasTooLong before after
+EndsScript status.NoMemory cut keep before after = ReadsInOrder KeepsCount before after
+EndsScript status.InputTooLong cut keep before after = ReadsInOrder IsTooLong before after
 
 -- what `format` has done, where it ends with this status
-abbrev pub EndsFormat : Status → ℕ → Streams → Streams → Type 0
-EndsFormat status.Done segments before after =
-    Appends before.image_out after.image_out (spelling (stage_words segments))
-EndsFormat status.WriteFault segments before after =
-    AppendsFront before.image_out after.image_out (spelling (stage_words segments))
+abbrev pub EndsFormat : Status → ℕ → SinkState → SinkState → Type 0
+EndsFormat status.Done segments before after = IsWrittenOut before after (spelling (stage_words segments))
+EndsFormat status.WriteFault segments before after = FailsToWrite before after (spelling (stage_words segments))
 EndsFormat status.NoMemory segments before after = Unit {0}
 EndsFormat other segments before after = ⊥
 
@@ -194,7 +225,8 @@ EndsUnread other = ⊥
 -- what the call has done, where it ends with this status
 abbrev pub Ends : Status → Option Job → Streams → Streams → Type 0
 Ends given None before after = EndsUnread given
-Ends given (Some (job.Format segments)) before after = EndsFormat given segments before after
+Ends given (Some (job.Format segments)) before after =
+    EndsFormat given segments before.outputs.image after.outputs.image
 Ends given (Some (job.Script cut keep)) before after = EndsScript given cut keep before after
 
 -- this holds where the job reads nothing and prints nothing
@@ -209,18 +241,6 @@ UnlessWritten status.Done claim = Unit {0}
 UnlessWritten status.PowerCut claim = Unit {0}
 UnlessWritten status.WriteFault claim = Unit {0}
 UnlessWritten other claim = claim
-
--- this holds where the image and the text were written, or the image alone was to be
-abbrev pub WhenWritten : Status → Type 0 → Type 0
-WhenWritten status.Done claim = claim
-WhenWritten status.PowerCut claim = claim
-WhenWritten other claim = Unit {0}
-
--- this holds where the job reads and prints
-abbrev pub WhenScript : Option Job → Type 0 → Type 0
-WhenScript None claim = Unit {0}
-WhenScript (Some (job.Format segments)) claim = Unit {0}
-WhenScript (Some (job.Script cut keep)) claim = claim
 
 -- at most one byte past the limit was taken, and that one only where the input is answered to be too long
 abbrev pub TakesInput : Status → Told → Told → Type 0

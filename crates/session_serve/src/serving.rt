@@ -1,15 +1,10 @@
-ghost use Rattle.std.specs.Prelude.{◌≡◌, ◌≢◌, ◌⊎◌, true, ◌<◌, ◌≤◌, List, ℕ, Ok, None, All, IfOk, IfErr, IfSome, IsErrOf, OnErr, OnOk, map, length, string_bytes};
-ghost use Rattle.std.specs.Io.KnownBytes.{Appends};
-ghost use Rattle.io_edge.specs.Faults.{HasCause, Rose, UnlessErr};
-ghost use Rattle.io_edge.specs.declared.reading.TheConstants.{LIMIT};
-ghost use Rattle.pm_image.specs.Spelling.{IsImage, spelling};
+ghost use Rattle.std.specs.Prelude.{◌≡◌, ◌≤◌, List, ℕ, Ok, None, All, IfOk, IfErr, IfSome, OnErr, OnOk, map, string_bytes};
+ghost use Rattle.pm_image.specs.Spelling.{IsImage};
 ghost use Rattle.engine_core.specs.Opening.{opening_fault};
-ghost use Rattle.engine_core.specs.Stage.{stage_words};
 ghost use Rattle.script_text.specs.Script.{IsBuiltLine};
 ghost use Rattle.command_line.specs.Words.{job_of};
-ghost use Rattle.session_serve.specs.Runs.{AppendsFront, AreWordsOf, Ends, EndsFormat, EndsScript, MayEnd, ReadsImage, ReadsScript, ReadsToEnd, TakesInput, UnlessScript, UnlessWritten, WhenScript, WhenWritten, streams};
+ghost use Rattle.session_serve.specs.Runs.{AreWordsOf, Ends, EndsFormat, EndsScript, FailsToWrite, IsWrittenOut, MayEnd, ReadsImage, ReadsScript, ReadsToEnd, TakesInput, UnlessScript, UnlessWritten, outputs, streams};
 ghost use Rattle.session_serve.specs.Parts.{IsNoImage, IsNoScript, IsUnread, IsWritten, RanWords, Takes};
-ghost use Rattle.session_serve.specs.declared.status.Status.TheVariants as status;
 
 use crate::leaving::{Left, play};
 use crate::playing::Ending;
@@ -24,12 +19,9 @@ use std::alloc::Global;
 
 /// Reads a source to its end.
 fn read_bytes<S: Source>(alloc: Global, from: &mut S) -> Result<Vec<u8>, Status>
-    ensures read { IfOk result (λ bytes. ReadsToEnd (S.left from.old) (S.left from.new) bytes.items) }
-    ensures refused { IfErr result (λ given. IsUnread given (S.left from.old) (S.left from.new)) }
-    ensures taken { Takes result (S.left from.old) (S.left from.new) }
-    ensures later { S.faults from.old ≤ S.faults from.new }
-    ensures fault { IsErrOf result status.ReadFault → Rose (S.faults from.old) (S.faults from.new) }
-    ensures kept { UnlessErr result status.ReadFault (S.faults from.new ≡ S.faults from.old) }
+    ensures read { IfOk result (λ bytes. ReadsToEnd (S.state from.old) (S.state from.new) bytes.items) }
+    ensures refused { IfErr result (λ given. IsUnread given (S.state from.old) (S.state from.new)) }
+    ensures taken { Takes result (S.state from.old).left (S.state from.new).left }
 {
     match read_all(alloc, from) {
         Ok(bytes) => Ok(bytes),
@@ -42,12 +34,9 @@ fn read_bytes<S: Source>(alloc: Global, from: &mut S) -> Result<Vec<u8>, Status>
 /// Reads the words of an image.
 fn read_image<S: Source>(alloc: Global, from: &mut S) -> Result<Vec<u64>, Status>
     ensures image { IfOk result (λ words. IsImage words.items) }
-    ensures read { IfOk result (λ words. ReadsImage (S.left from.old) (S.left from.new) words.items) }
-    ensures refused { IfErr result (λ given. IsNoImage given (S.left from.old) (S.left from.new)) }
-    ensures taken { Takes result (S.left from.old) (S.left from.new) }
-    ensures later { S.faults from.old ≤ S.faults from.new }
-    ensures fault { IsErrOf result status.ReadFault → Rose (S.faults from.old) (S.faults from.new) }
-    ensures kept { UnlessErr result status.ReadFault (S.faults from.new ≡ S.faults from.old) }
+    ensures read { IfOk result (λ words. ReadsImage (S.state from.old) (S.state from.new) words.items) }
+    ensures refused { IfErr result (λ given. IsNoImage given (S.state from.old) (S.state from.new)) }
+    ensures taken { Takes result (S.state from.old).left (S.state from.new).left }
 {
     let bytes = read_bytes(alloc, from)?;
     match decode(alloc, &bytes) {
@@ -60,12 +49,9 @@ fn read_image<S: Source>(alloc: Global, from: &mut S) -> Result<Vec<u64>, Status
 /// Reads a script.
 fn read_lines<S: Source>(alloc: Global, from: &mut S) -> Result<Script, Status>
     ensures built { IfOk result (λ script. All IsBuiltLine script) }
-    ensures read { IfOk result (λ script. ReadsScript (S.left from.old) (S.left from.new) (Ok script)) }
-    ensures refused { IfErr result (λ given. IsNoScript given (S.left from.old) (S.left from.new)) }
-    ensures taken { Takes result (S.left from.old) (S.left from.new) }
-    ensures later { S.faults from.old ≤ S.faults from.new }
-    ensures fault { IsErrOf result status.ReadFault → Rose (S.faults from.old) (S.faults from.new) }
-    ensures kept { UnlessErr result status.ReadFault (S.faults from.new ≡ S.faults from.old) }
+    ensures read { IfOk result (λ script. ReadsScript (S.state from.old) (S.state from.new) (Ok script)) }
+    ensures refused { IfErr result (λ given. IsNoScript given (S.state from.old) (S.state from.new)) }
+    ensures taken { Takes result (S.state from.old).left (S.state from.new).left }
 {
     let bytes = read_bytes(alloc, from)?;
     match read_script(alloc, &bytes) {
@@ -77,10 +63,8 @@ fn read_lines<S: Source>(alloc: Global, from: &mut S) -> Result<Script, Status>
 
 /// Writes and flushes bytes.
 fn write_bytes<O: Sink>(bytes: &[u8], to: &mut O) -> Result<(), Failed>
-    ensures all { OnOk result (Appends (O.held to.old) (O.held to.new) bytes.now) }
-    ensures front { OnErr result (AppendsFront (O.held to.old) (O.held to.new) bytes.now) }
-    ensures flushed { OnOk result (O.flushed to.new ≡ true) }
-    ensures cause { HasCause (O.faults to.old) (O.faults to.new) result }
+    ensures written { OnOk result (IsWrittenOut (O.state to.old) (O.state to.new) bytes.now) }
+    ensures failed { OnErr result (FailsToWrite (O.state to.old) (O.state to.new) bytes.now) }
 {
     write_all(to, bytes)?;
     to.flush()
@@ -89,16 +73,8 @@ fn write_bytes<O: Sink>(bytes: &[u8], to: &mut O) -> Result<(), Failed>
 /// Writes what a run has left: the image, and then the text.
 fn write_left<J: Sink, O: Sink>(left: &Left, image_out: &mut J, out: &mut O) -> Status
     ensures written { IsWritten left.now.ending result
-        (streams None None (J.held image_out.old) (O.held out.old))
-        (streams None None (J.held image_out.new) (O.held out.new)) left.now.image.items left.now.text.items }
-    ensures image_flushed { WhenWritten result (J.flushed image_out.new ≡ true) }
-    ensures flushed { WhenWritten result (O.flushed out.new ≡ true) }
-    ensures image_later { J.faults image_out.old ≤ J.faults image_out.new }
-    ensures later { O.faults out.old ≤ O.faults out.new }
-    ensures fault { result ≡ status.WriteFault
-        → Rose (J.faults image_out.old) (J.faults image_out.new) ⊎ Rose (O.faults out.old) (O.faults out.new) }
-    ensures image_kept { result ≢ status.WriteFault → J.faults image_out.new ≡ J.faults image_out.old }
-    ensures kept { result ≢ status.WriteFault → O.faults out.new ≡ O.faults out.old }
+        (outputs (J.state image_out.old) (O.state out.old)) (outputs (J.state image_out.new) (O.state out.new))
+        left.now.image.items left.now.text.items }
 {
     if write_bytes(&left.image, image_out).is_err() || write_bytes(&left.text, out).is_err() {
         return Status::WriteFault;
@@ -122,18 +98,9 @@ fn play_and_write<J: Sink, O: Sink>(
     requires image { IsImage words.items }
     requires built { All IsBuiltLine script }
     ensures ran { RanWords result cut keep words.items script
-        (streams None None (J.held image_out.old) (O.held out.old))
-        (streams None None (J.held image_out.new) (O.held out.new)) }
+        (outputs (J.state image_out.old) (O.state out.old)) (outputs (J.state image_out.new) (O.state out.new)) }
     ensures image_unwritten { UnlessWritten result (image_out.new ≡ image_out.old) }
     ensures unwritten { UnlessWritten result (out.new ≡ out.old) }
-    ensures image_flushed { WhenWritten result (J.flushed image_out.new ≡ true) }
-    ensures flushed { WhenWritten result (O.flushed out.new ≡ true) }
-    ensures image_later { J.faults image_out.old ≤ J.faults image_out.new }
-    ensures later { O.faults out.old ≤ O.faults out.new }
-    ensures fault { result ≡ status.WriteFault
-        → Rose (J.faults image_out.old) (J.faults image_out.new) ⊎ Rose (O.faults out.old) (O.faults out.new) }
-    ensures image_kept { result ≢ status.WriteFault → J.faults image_out.new ≡ J.faults image_out.old }
-    ensures kept { result ≢ status.WriteFault → O.faults out.new ≡ O.faults out.old }
 {
     match play(alloc, words, script, cut, keep) {
         Ok(left) => write_left(&left, image_out, out),
@@ -153,26 +120,12 @@ fn read_and_play<I: Source, S: Source, J: Sink, O: Sink>(
     out: &mut O,
 ) -> Status
     ensures ends { EndsScript result cut keep
-        (streams (I.left image.old) (S.left input.old) (J.held image_out.old) (O.held out.old))
-        (streams (I.left image.new) (S.left input.new) (J.held image_out.new) (O.held out.new)) }
-    ensures image_taken { TakesInput result (I.left image.old) (I.left image.new) }
-    ensures taken { TakesInput result (S.left input.old) (S.left input.new) }
-    ensures read_fault { result ≡ status.ReadFault
-        → Rose (I.faults image.old) (I.faults image.new) ⊎ Rose (S.faults input.old) (S.faults input.new) }
-    ensures image_read_later { I.faults image.old ≤ I.faults image.new }
-    ensures read_later { S.faults input.old ≤ S.faults input.new }
-    ensures image_read_kept { result ≢ status.ReadFault → I.faults image.new ≡ I.faults image.old }
-    ensures read_kept { result ≢ status.ReadFault → S.faults input.new ≡ S.faults input.old }
-    ensures write_fault { result ≡ status.WriteFault
-        → Rose (J.faults image_out.old) (J.faults image_out.new) ⊎ Rose (O.faults out.old) (O.faults out.new) }
-    ensures image_write_later { J.faults image_out.old ≤ J.faults image_out.new }
-    ensures write_later { O.faults out.old ≤ O.faults out.new }
-    ensures image_write_kept { result ≢ status.WriteFault → J.faults image_out.new ≡ J.faults image_out.old }
-    ensures write_kept { result ≢ status.WriteFault → O.faults out.new ≡ O.faults out.old }
+        (streams (I.state image.old) (S.state input.old) (J.state image_out.old) (O.state out.old))
+        (streams (I.state image.new) (S.state input.new) (J.state image_out.new) (O.state out.new)) }
+    ensures image_taken { TakesInput result (I.state image.old).left (I.state image.new).left }
+    ensures taken { TakesInput result (S.state input.old).left (S.state input.new).left }
     ensures image_unwritten { UnlessWritten result (image_out.new ≡ image_out.old) }
     ensures unwritten { UnlessWritten result (out.new ≡ out.old) }
-    ensures image_flushed { WhenWritten result (J.flushed image_out.new ≡ true) }
-    ensures flushed { WhenWritten result (O.flushed out.new ≡ true) }
 {
     let words = match read_image(alloc, image) {
         Ok(words) => words,
@@ -189,12 +142,7 @@ fn read_and_play<I: Source, S: Source, J: Sink, O: Sink>(
 fn format_and_write<J: Sink>(alloc: Global, segments: u32, image_out: &mut J) -> Status
     requires one_or_more { 1 ≤ segments }
     requires most { segments ≤ 128 }
-    ensures ends { EndsFormat result segments
-        (streams None None (J.held image_out.old) None) (streams None None (J.held image_out.new) None) }
-    ensures later { J.faults image_out.old ≤ J.faults image_out.new }
-    ensures fault { result ≡ status.WriteFault → Rose (J.faults image_out.old) (J.faults image_out.new) }
-    ensures kept { result ≢ status.WriteFault → J.faults image_out.new ≡ J.faults image_out.old }
-    ensures flushed { WhenWritten result (J.flushed image_out.new ≡ true) }
+    ensures ends { EndsFormat result segments (J.state image_out.old) (J.state image_out.new) }
     ensures unwritten { UnlessWritten result (image_out.new ≡ image_out.old) }
 {
     let Ok(words) = stage_fresh(alloc, segments) else {
@@ -224,37 +172,20 @@ pub fn run<I: Source, S: Source, J: Sink, O: Sink>(
     image_out: &mut J,
     out: &mut O,
 ) -> Status
-    // What the call has done, by the status that it ends with.
+    // What the call has done, by the status that it ends with: what was read, and to its end; what was written, and flushed
+    // once, behind its last byte; and which stream has failed, exactly where a fault is answered.
     ensures ends { Ends result (job_of (map string_bytes words.now))
-        (streams (I.left image.old) (S.left input.old) (J.held image_out.old) (O.held out.old))
-        (streams (I.left image.new) (S.left input.new) (J.held image_out.new) (O.held out.new)) }
+        (streams (I.state image.old) (S.state input.old) (J.state image_out.old) (O.state out.old))
+        (streams (I.state image.new) (S.state input.new) (J.state image_out.new) (O.state out.new)) }
 
     // The status is the one that is due to the words, the image and the input, unless memory ran out or a stream failed.
-    ensures due { IfSome (I.left image.old) (λ image_bytes. IfSome (S.left input.old) (λ input_bytes.
+    ensures due { IfSome (I.state image.old).left (λ image_bytes. IfSome (S.state input.old).left (λ input_bytes.
         (spelled : List ℕ) → AreWordsOf image_bytes spelled
         → MayEnd (job_of (map string_bytes words.now)) image_bytes input_bytes (opening_fault spelled) result)) }
 
     // No more than one byte past the limit is taken of an input, and that one only where it is answered to be too long.
-    ensures image_taken { TakesInput result (I.left image.old) (I.left image.new) }
-    ensures taken { TakesInput result (S.left input.old) (S.left input.new) }
-
-    // A fault is answered exactly where a stream's count rose, and no count falls.
-    ensures read_fault { result ≡ status.ReadFault
-        → Rose (I.faults image.old) (I.faults image.new) ⊎ Rose (S.faults input.old) (S.faults input.new) }
-    ensures image_read_later { I.faults image.old ≤ I.faults image.new }
-    ensures read_later { S.faults input.old ≤ S.faults input.new }
-    ensures image_read_kept { result ≢ status.ReadFault → I.faults image.new ≡ I.faults image.old }
-    ensures read_kept { result ≢ status.ReadFault → S.faults input.new ≡ S.faults input.old }
-    ensures write_fault { result ≡ status.WriteFault
-        → Rose (J.faults image_out.old) (J.faults image_out.new) ⊎ Rose (O.faults out.old) (O.faults out.new) }
-    ensures image_write_later { J.faults image_out.old ≤ J.faults image_out.new }
-    ensures write_later { O.faults out.old ≤ O.faults out.new }
-    ensures image_write_kept { result ≢ status.WriteFault → J.faults image_out.new ≡ J.faults image_out.old }
-    ensures write_kept { result ≢ status.WriteFault → O.faults out.new ≡ O.faults out.old }
-
-    // What was written was flushed: the image, and the text of a script.
-    ensures image_flushed { WhenWritten result (J.flushed image_out.new ≡ true) }
-    ensures flushed { WhenScript (job_of (map string_bytes words.now)) (WhenWritten result (O.flushed out.new ≡ true)) }
+    ensures image_taken { TakesInput result (I.state image.old).left (I.state image.new).left }
+    ensures taken { TakesInput result (S.state input.old).left (S.state input.new).left }
 
     // The outputs are touched only where the image and the text are written, and only a script reads and prints.
     ensures image_unwritten { UnlessWritten result (image_out.new ≡ image_out.old) }

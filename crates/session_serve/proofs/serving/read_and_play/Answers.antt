@@ -1,4 +1,4 @@
-use Rattle.session_serve.proofs.Served.{ends-ran, takes-on, unread-image, unread-script}
+use Rattle.session_serve.proofs.Served.{ends-ran, takes-on}
 use Rattle.session_serve.proofs.serving.read_and_play.Goals as goal
 
 pub returns-clause-ends : goal.returns-clause-ends
@@ -10,15 +10,3 @@ returns-clause-taken g c = takes-on c.play_and_write.result c.read_lines.result 
 
 pub returns-clause-image_taken : goal.returns-clause-image_taken
 returns-clause-image_taken g c = takes-on c.play_and_write.result c.read_image.result c.in-Ok.words _ _ c.in-Ok.is c.read_image.ensures.taken
-
-pub returns-in-Err-clause-image_flushed : goal.returns-in-Err-clause-image_flushed
-returns-in-Err-clause-image_flushed g c = unread-image c.in-Err.status _ _ _ c.in-Err.ensures.refused
-
-pub returns-in-Err-clause-flushed : goal.returns-in-Err-clause-flushed
-returns-in-Err-clause-flushed g c = unread-image c.in-Err.status _ _ _ c.in-Err.ensures.refused
-
-pub returns-in-Err-read_lines-clause-image_flushed : goal.returns-in-Err-read_lines-clause-image_flushed
-returns-in-Err-read_lines-clause-image_flushed g c = unread-script c.in-Err-read_lines.status _ _ _ c.in-Err-read_lines.ensures.refused
-
-pub returns-in-Err-read_lines-clause-flushed : goal.returns-in-Err-read_lines-clause-flushed
-returns-in-Err-read_lines-clause-flushed g c = unread-script c.in-Err-read_lines.status _ _ _ c.in-Err-read_lines.ensures.refused
