@@ -1,12 +1,14 @@
 // A session that steps over the words of a device, one action or one decision at a time.
 ghost use Rattle.mv_model.specs.History.{IsLegal};
 ghost use Rattle.engine_core.specs.LogicalState.{logical_state};
-ghost use Rattle.std.specs.Prelude.{false, ◌≡◌, ◌≢◌, ℕ, ◌+◌, ◌-◌, ◌^◌, ◌<◌, List, [], ◌++◌, None, length, take, IfOk, IfErr, IsTrue, ◌↔◌};
+ghost use Rattle.std.specs.Prelude.{false, ◌≡◌, ◌≢◌, ℕ, ◌+◌, ◌-◌, ◌^◌, ◌<◌, List, [], ◌++◌, None, length, take, IfOk, IfErr, IsErrOf, IsTrue, ◌↔◌};
 ghost use Rattle.engine_core.specs.CoreState.{CoreState, ActsOnce, IsAnsweredButFor, IsDueAt, IsDueNext, IsEvent, Last, Nothing, Unplaced};
 ghost use Rattle.engine_core.specs.declared.flight.Step.TheVariants.{Decided, Played, Replied};
 ghost use Rattle.pm_model.specs.Device.{IsCrashImage};
 ghost use Rattle.pm_model.specs.Plans.{at_rest, plan_of, run};
 ghost use Rattle.engine_core.specs.Actions.{plan_in};
+ghost use Rattle.image_layout.specs.Checks.{first_fault};
+ghost use Rattle.engine_core.specs.ImageRules.{entry_rules};
 ghost use Rattle.engine_core.specs.Opening.{opening_fault, opening_parts, recovered};
 ghost use Rattle.engine_core.specs.Opened.{IsRefusal};
 ghost use Rattle.engine_core.specs.Recoverable.{IsRecoverable, MayRecoverTo, undecided};
@@ -101,7 +103,8 @@ impl<M: Memory + Drop> Drop for Core<M> {
 
 impl<M: Memory + Drop> Core<M> {
     /// A core over a device at rest with the words of an image, such as a power cut leaves. Opening mends it. An image is
-    /// refused by the first rule of each image that it breaks, or that it breaks once it was opened.
+    /// refused by the first rule of each image that it breaks, or that it breaks once it was opened. The rules of each image
+    /// are tried without memory: where memory runs out, none of them is broken.
     pub fn from_memory(alloc: Global, memory: M) -> Result<Core<M>, OpenError>
         requires rests { M.device memory ≡ at_rest (M.device memory).cached }
         ensures opened { IfOk result (λ core. core.opened ≡ recovered (M.device memory).cached) }
@@ -109,6 +112,7 @@ impl<M: Memory + Drop> Core<M> {
         ensures rests { IfOk result (λ core. M.device core.memory ≡ at_rest core.opened) }
         ensures accepted { IfOk result (λ core. opening_fault (M.device memory).cached ≡ None) }
         ensures refused { IfErr result (λ error. IsRefusal error (opening_fault (M.device memory).cached)) }
+        ensures memory { IsErrOf result OutOfMemory → first_fault entry_rules (M.device memory).cached ≡ None }
         ensures recoverable { IsRecoverable (M.device memory).cached → IfErr result (λ error. error ≡ OutOfMemory) }
         ensures history { IfOk result (λ core. core.history ≡ []) }
         ensures due { IfOk result (λ core. core.due ≡ []) }

@@ -7,8 +7,8 @@ pub record SourceState : Type 0 where
   pub left : Option (List ℕ)
   pub faults : ℕ
 
--- what a sink holds, where it tells it; how often it has failed, and how often it was flushed; and whether it was flushed
--- since it last took a byte
+-- what a sink holds, where it tells it; how often it has failed, and how often it was flushed; and whether it was
+-- flushed since it last took a byte
 pub record SinkState : Type 0 where
   pub held : Option (List ℕ)
   pub faults : ℕ

@@ -3,5 +3,5 @@ pub mod Lines
 pub mod Endings
 pub mod Writes
 pub mod Served
-pub mod Due
+pub mod StatusOf
 pub mod Dues

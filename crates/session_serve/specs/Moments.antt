@@ -42,8 +42,8 @@ calls_of session entries = map (λ entry. entry.call) (entries_of session entrie
 abbrev pub IsFrontOf : List Call → List Call → Type 0
 IsFrontOf front all = (rest : List Call) × (all ≡ front ++ rest)
 
--- the entry was refused for want of room exactly where the store has none, and for want of memory only where its call takes
--- some: its reply is no other refusal
+-- the entry was refused for want of room exactly where the store has none, and for want of memory only where its call
+-- takes some: another refusal is not due there
 pub record IsWantingWhere (state : State) (entry : Entry) : Type 0 where
   pub room : IsFullWhere state entry.reply
   pub memory : IsNoMemoryWhere state entry.call entry.reply
@@ -54,21 +54,24 @@ AreWantingWhere state [] = Unit {0}
 AreWantingWhere state (entry ∷ entries) =
     IsWantingWhere state entry × AreWantingWhere (next state entry.session entry.call entry.reply) entries
 
--- The moment is one of a run of the script over the image of these words, when so many actions were played. The history is
--- legal from the state that the opened words stand for, and the calls are those of the script. A commit is due until the
--- fence that makes it certain was played; each other call that is decided is in the history. The actions that were played
--- are the first of the plans of these calls, and the device is what they make of the opened words. Whatever image a power
--- cut leaves at this moment, opening it gives the commits whose commit word is durable.
+-- The moment is one of a run of the script over the image of these words, when so many actions were played.
 pub record IsRun (words : List ℕ) (script : List Line) (played : ℕ) (m : Moment) : Type 0 where
+  -- the image breaks no rule, and opening makes these words of it
   pub accepted : opening_fault words ≡ None
   pub opened : m.opened ≡ recovered words
+  -- the history is legal from the state that they stand for, also with what is due
   pub legal : IsLegal (logical_state m.opened) m.history
   pub legal_due : IsLegal (logical_state m.opened) (decided m)
+  -- its calls are those of the script, session by session, and a refusal for want of room or of memory has its cause
   pub said : (session : ℕ) → IsFrontOf (calls_of session (decided m)) (statements_of session script)
   pub wanting : AreWantingWhere (logical_state m.opened) m.history
+  -- a commit is due until the fence that makes it certain was played; each other call that is decided is in the history
   pub due_is : IsDueAt (logical_state m.opened) m.history m.due m.to_play
+  -- of the actions of the plans of these calls, one plan after the other, the first `played` were played: they have made
+  -- the device of the opened words
   pub counted : played + m.to_play ≡ length (planned m)
   pub device : m.device ≡ run 1 (take played (planned m)) (at_rest m.opened)
+  -- whatever image a power cut leaves now, opening it gives the commits whose commit word is durable
   pub recoverable : (image : List ℕ) → IsCrashImage m.device image → IsRecoverable image
   pub may_recover_to : (image : List ℕ) → IsCrashImage m.device image
       → MayRecoverTo (logical_state m.opened) m.history (undecided m.device m.due) (logical_state image)
@@ -95,8 +98,8 @@ pub record EndsInCall (opened : State) (number : ℕ) (entries : List Entry) : T
   pub open_still : last.answered ≡ false
   pub before : length (plan_in opened front) < number
 
--- The moment is the first one at which so many actions were played and a statement has no reply: before the first statement
--- where that is none, and else within a call.
+-- The moment is the first one at which so many actions were played and a statement has no reply: before the first
+-- statement where that is none, and else within a call.
 abbrev pub IsFirstAt : ℕ → List Line → Moment → Type 0
 IsFirstAt number script m =
     ((number ≡ 0) × (script ≢ []) × (decided m ≡ [])) ⊎ EndsInCall (logical_state m.opened) number (decided m)

@@ -2,6 +2,8 @@
 use Rattle.std.specs.Prelude.{ℕ, ◌≡◌, ◌⊎◌, ◌+◌, ◌≤◌, List, Option, Some, Result, Err}
 use Rattle.io_edge.specs.Transfer.{Loses}
 use Rattle.io_edge.specs.declared.reading.TheConstants.{LIMIT}
+use Rattle.pm_model.specs.Device.{Device, IsCrashImage, image_of}
+use Rattle.pm_image.specs.Spelling.{spelling}
 use Rattle.engine_core.specs.Opening.{opening_fault}
 use Rattle.script_text.specs.declared.script.Line.{Line}
 use Rattle.pm_model.specs.declared.action.Keep.{Keep}
@@ -24,6 +26,10 @@ abbrev pub kept_by : Ending → Keep → Keep
 kept_by ending.Finished keep = All
 kept_by ending.Cut keep = keep
 
+-- the bytes are those of the image that keeps these words of the device, which is one that a power cut can leave
+abbrev pub IsLeftBy : Keep → Device → List ℕ → Type 0
+IsLeftBy keep d bytes = IsCrashImage d (image_of keep d) × (bytes ≡ spelling (image_of keep d))
+
 -- why the bytes of a source aren't read
 abbrev pub IsUnread : Status → SourceState → SourceState → Type 0
 IsUnread status.ReadFault before after = FailsToRead before after
@@ -38,7 +44,8 @@ IsNoImage other before after = IsUnread other before after
 
 -- why a script isn't read
 abbrev pub IsNoScript : Status → SourceState → SourceState → Type 0
-IsNoScript (status.BadScript number rule) before after = ReadsScript before after (Err (script_error.BadLine number rule))
+IsNoScript (status.BadScript number rule) before after =
+    ReadsScript before after (Err (script_error.BadLine number rule))
 IsNoScript other before after = IsUnread other before after
 
 -- at most one byte past the limit was taken, and that one only where the result is that the input is too long
@@ -56,9 +63,12 @@ IsWritten end other before after image text = ⊥
 -- what a script over the image of these words has done, where it ends with this status
 abbrev pub RanWords : Status → Option ℕ → Keep → List ℕ → List Line → Outputs → Outputs → Type 0
 RanWords status.Done cut keep words script before after = WrittenRun (Finishes cut) WritesAll words script before after
-RanWords status.PowerCut cut keep words script before after = WrittenRun (IsCutOff cut keep) WritesAll words script before after
+RanWords status.PowerCut cut keep words script before after =
+    WrittenRun (IsCutOff cut keep) WritesAll words script before after
 RanWords status.WriteFault cut keep words script before after =
-    WrittenRun (Finishes cut) WritesFront words script before after ⊎ WrittenRun (IsCutOff cut keep) WritesFront words script before after
-RanWords (status.BadImage rule place) cut keep words script before after = opening_fault words ≡ Some (record { rule = rule; place = place })
+    WrittenRun (Finishes cut) WritesFront words script before after
+    ⊎ WrittenRun (IsCutOff cut keep) WritesFront words script before after
+RanWords (status.BadImage rule place) cut keep words script before after =
+    opening_fault words ≡ Some (record { rule = rule; place = place })
 RanWords status.NoMemory cut keep words script before after = Unit {0}
 RanWords other cut keep words script before after = ⊥

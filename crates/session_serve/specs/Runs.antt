@@ -92,7 +92,7 @@ abbrev pub WritesAll : Writing
 WritesAll before after image text =
     IsWrittenOut before.image after.image image × IsWrittenOut before.text after.text text
 
--- the image's sink has failed, and the text's was left alone; or the image was written out, and the text's sink has failed
+-- the image's sink has failed, and the text's was left alone; or the image was written out, and the text's has failed
 abbrev pub WritesFront : Writing
 WritesFront before after image text =
     (FailsToWrite before.image after.image image × (after.text ≡ before.text))
@@ -135,9 +135,10 @@ pub record Finishes (cut : Option ℕ) (words : List ℕ) (script : List Line) (
   pub image_is : image ≡ spelling moment.device.cached
   pub text_is : text ≡ history_text moment.history
 
--- The power was cut at the first moment at which so many actions were played and a statement had no reply: the image is the
--- one that keeps these words of the device, which is one that a power cut can leave.
-pub record IsCutOff (cut : Option ℕ) (keep : Keep) (words : List ℕ) (script : List Line) (image text : List ℕ) : Type 0 where
+-- The power was cut at the first moment at which so many actions were played and a statement had no reply: the image is
+-- the one that keeps these words of the device, which is one that a power cut can leave.
+pub record IsCutOff (cut : Option ℕ) (keep : Keep) (words : List ℕ) (script : List Line)
+    (image text : List ℕ) : Type 0 where
   pub moment : Moment
   pub number : ℕ
   pub cut_is : cut ≡ Some number
@@ -150,7 +151,8 @@ pub record IsCutOff (cut : Option ℕ) (keep : Keep) (words : List ℕ) (script 
 -- ── what a call has done ──
 
 -- a script was run over the image of these words, and what it left was written
-pub record WrittenRun (Leaves : Leaving) (Writes : Writing) (words : List ℕ) (script : List Line) (before after : Outputs) : Type 0 where
+pub record WrittenRun (Leaves : Leaving) (Writes : Writing) (words : List ℕ) (script : List Line)
+    (before after : Outputs) : Type 0 where
   pub image : List ℕ
   pub text : List ℕ
   pub left : Leaves words script image text
@@ -182,8 +184,8 @@ pub record RefusedImage (fault : Fault) (before after : Streams) : Type 0 where
 abbrev pub ReadsSomeImage : SourceState → SourceState → Type 0
 ReadsSomeImage before after = (words : List ℕ) × ReadsImage before after words
 
--- the sources are read in their order: this holds of the image, and the script was left alone; or an image was read, and
--- this holds of the script
+-- the sources are read in their order: this holds of the image, and the script was left alone; or an image was read,
+-- and this holds of the script
 abbrev pub ReadsInOrder : (SourceState → SourceState → Type 0) → Streams → Streams → Type 0
 ReadsInOrder Holds before after =
     (Holds before.image after.image × (after.input ≡ before.input))
@@ -247,47 +249,49 @@ abbrev pub TakesInput : Status → Told → Told → Type 0
 TakesInput given before after =
     Loses before after (λ count. (count ≤ LIMIT + 1) × (count ≡ LIMIT + 1 → given ≡ status.InputTooLong))
 
--- ── which status is due ──
+-- ── which status a call may end with ──
 
 -- a run ends with Done, or with a power cut where there is one; a sink may fail
-abbrev pub IsDueOfRun : Option ℕ → Status → Type 0
-IsDueOfRun cut status.Done = Unit {0}
-IsDueOfRun (Some number) status.PowerCut = Unit {0}
-IsDueOfRun cut status.WriteFault = Unit {0}
-IsDueOfRun cut other = ⊥
+abbrev pub IsStatusOfRun : Option ℕ → Status → Type 0
+IsStatusOfRun cut status.Done = Unit {0}
+IsStatusOfRun (Some number) status.PowerCut = Unit {0}
+IsStatusOfRun cut status.WriteFault = Unit {0}
+IsStatusOfRun cut other = ⊥
 
-abbrev pub IsDueOfOpening : Option Fault → Option ℕ → Status → Type 0
-IsDueOfOpening None cut given = IsDueOfRun cut given
-IsDueOfOpening (Some fault) cut given = given ≡ status.BadImage fault.rule fault.place
+abbrev pub IsStatusOfOpening : Option Fault → Option ℕ → Status → Type 0
+IsStatusOfOpening None cut given = IsStatusOfRun cut given
+IsStatusOfOpening (Some fault) cut given = given ≡ status.BadImage fault.rule fault.place
 
-abbrev pub IsDueOfScript : Result (List Line) ScriptError → Option Fault → Option ℕ → Status → Type 0
-IsDueOfScript (Ok script) fault cut given = IsDueOfOpening fault cut given
-IsDueOfScript (Err (script_error.BadLine number rule)) fault cut given = given ≡ status.BadScript number rule
-IsDueOfScript (Err script_error.NoMemory) fault cut given = ⊥
+abbrev pub IsStatusOfScript : Result (List Line) ScriptError → Option Fault → Option ℕ → Status → Type 0
+IsStatusOfScript (Ok script) fault cut given = IsStatusOfOpening fault cut given
+IsStatusOfScript (Err (script_error.BadLine number rule)) fault cut given = given ≡ status.BadScript number rule
+IsStatusOfScript (Err script_error.NoMemory) fault cut given = ⊥
 
 -- the first claim where the test holds, and else the second
 abbrev pub Whichever : Bool → Type 0 → Type 0 → Type 0
 Whichever true first second = first
 Whichever false first second = second
 
-abbrev pub IsDueOfInput : List ℕ → Option Fault → Option ℕ → Status → Type 0
-IsDueOfInput input fault cut given =
-    Whichever (nat_lt LIMIT (length input)) (given ≡ status.InputTooLong) (IsDueOfScript (script_of input) fault cut given)
+abbrev pub IsStatusOfInput : List ℕ → Option Fault → Option ℕ → Status → Type 0
+IsStatusOfInput input fault cut given =
+    Whichever (nat_lt LIMIT (length input)) (given ≡ status.InputTooLong)
+    (IsStatusOfScript (script_of input) fault cut given)
 
-abbrev pub IsDueOfFault : Option ImageError → List ℕ → Option Fault → Option ℕ → Status → Type 0
-IsDueOfFault None input fault cut given = IsDueOfInput input fault cut given
-IsDueOfFault (Some error) input fault cut given = given ≡ status.BadBytes error
+abbrev pub IsStatusOfFault : Option ImageError → List ℕ → Option Fault → Option ℕ → Status → Type 0
+IsStatusOfFault None input fault cut given = IsStatusOfInput input fault cut given
+IsStatusOfFault (Some error) input fault cut given = given ≡ status.BadBytes error
 
--- the status that is due to the bytes of the image and of the input, in the order of work
-abbrev pub IsDueOfImage : List ℕ → List ℕ → Option Fault → Option ℕ → Status → Type 0
-IsDueOfImage image input fault cut given =
-    Whichever (nat_lt LIMIT (length image)) (given ≡ status.InputTooLong) (IsDueOfFault (first_fault image) input fault cut given)
+-- the status of these bytes of the image and of the input, in the order of work
+abbrev pub IsStatusOfImage : List ℕ → List ℕ → Option Fault → Option ℕ → Status → Type 0
+IsStatusOfImage image input fault cut given =
+    Whichever (nat_lt LIMIT (length image)) (given ≡ status.InputTooLong)
+    (IsStatusOfFault (first_fault image) input fault cut given)
 
 -- of a script, a source may fail too
 abbrev pub MayEndScript : List ℕ → List ℕ → Option Fault → Option ℕ → Status → Type 0
 MayEndScript image input fault cut status.ReadFault = Unit {0}
 MayEndScript image input fault cut status.NoMemory = Unit {0}
-MayEndScript image input fault cut other = IsDueOfImage image input fault cut other
+MayEndScript image input fault cut other = IsStatusOfImage image input fault cut other
 
 abbrev pub MayEndFormat : Status → Type 0
 MayEndFormat status.Done = Unit {0}
@@ -295,8 +299,8 @@ MayEndFormat status.WriteFault = Unit {0}
 MayEndFormat status.NoMemory = Unit {0}
 MayEndFormat other = ⊥
 
--- The call may end with this status: it is the one that is due to the words, the bytes of the image and those of the
--- input, or memory has run out, or a stream has failed. The fault is that of the words that the image spells.
+-- The call may end with this status: it is that of the words, the bytes of the image and those of the input, or memory
+-- has run out, or a stream has failed. The fault is that of the words that the image spells.
 abbrev pub MayEnd : Option Job → List ℕ → List ℕ → Option Fault → Status → Type 0
 MayEnd None image input fault given = EndsUnread given
 MayEnd (Some (job.Format segments)) image input fault given = MayEndFormat given

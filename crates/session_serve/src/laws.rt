@@ -6,7 +6,7 @@ ghost use Rattle.session_serve.specs.Moments.{IsRun, Moment, decided};
 
 /// The law of what is due in a run that is cut.
 pub fn due_law()
-    // No entry that has its place can be called due in its stead: the entries that are printed are all that are certain.
+    // No entry that has its place can be called due instead: the entries that are printed are all that are certain.
     ensures placed { (words : List ℕ) (script : List Line) (played : ℕ) (m : Moment) (front rest : List Entry)
         → IsRun words script played m → m.history ≡ front ++ rest → rest ≢ []
         → IsRun words script played (record m { history = front; due = rest ++ m.due }) → ⊥ }

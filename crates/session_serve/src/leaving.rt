@@ -1,12 +1,11 @@
 // What a run leaves: the bytes of an image and of a text.
 ghost use Rattle.std.specs.Prelude.{◌≡◌, ◌≤◌, ◌%◌, ℕ, List, None, length, All, IfOk, IfErr};
-ghost use Rattle.pm_model.specs.Device.{IsCrashImage, image_of};
-ghost use Rattle.pm_image.specs.Spelling.{IsImage, spelling};
+ghost use Rattle.pm_image.specs.Spelling.{IsImage};
 ghost use Rattle.engine_core.specs.Opened.{IsRefusal};
 ghost use Rattle.engine_core.specs.Opening.{opening_fault, recovered};
 ghost use Rattle.script_text.specs.Printed.{history_text};
 ghost use Rattle.script_text.specs.Script.{IsBuiltLine};
-ghost use Rattle.session_serve.specs.Parts.{LeavesBy, kept_by};
+ghost use Rattle.session_serve.specs.Parts.{IsLeftBy, LeavesBy, kept_by};
 ghost use Rattle.session_serve.specs.Playing.{IsFresh};
 
 use crate::playing::{Ending, play_script};
@@ -37,7 +36,7 @@ fn kept(ending: Ending, keep: Keep) -> Keep
 
 /// The bytes of the image that a power cut leaves.
 fn image_bytes<M: Memory>(alloc: Global, memory: &M, keep: Keep) -> Result<Vec<u8>, NoMemory>
-    ensures { IfOk result (λ bytes. IsCrashImage (M.device memory.now) (image_of keep (M.device memory.now)) × (bytes.items ≡ spelling (image_of keep (M.device memory.now)))) }
+    ensures { IfOk result (λ bytes. IsLeftBy keep (M.device memory.now) bytes.items) }
 {
     let words = memory.choose(keep)?;
     encode(alloc, &words)
@@ -88,7 +87,8 @@ pub(crate) fn play(
 ) -> Result<Left, OpenError>
     requires image { IsImage words.items }
     requires built { All IsBuiltLine script }
-    ensures left { IfOk result (λ left. LeavesBy left.ending cut keep words.items script left.image.items left.text.items) }
+    ensures left { IfOk result (λ left.
+        LeavesBy left.ending cut keep words.items script left.image.items left.text.items) }
     ensures refused { IfErr result (λ error. IsRefusal error (opening_fault words.items)) }
 {
     let mut core = match open(alloc, words) {

@@ -1,5 +1,5 @@
-// How a core is brought through a script: each call from its start to its reply, one line after the other, until a power
-// cut comes.
+// How a core is brought through a script: each call from its start to its reply, one line after the other, until a cut
+// comes.
 ghost use Rattle.std.specs.Prelude.{◌≡◌, ◌≢◌, ◌↔◌, ◌+◌, ◌-◌, ◌^◌, ◌<◌, ◌≤◌, true, Some, ℕ, List, [], All, length, IfOk, IsTrue};
 ghost use Rattle.mv_model.specs.declared.call.Call.{Call as Said};
 ghost use Rattle.mv_model.specs.declared.reply.Entry.{Entry};
@@ -81,7 +81,8 @@ fn start_and_step<M: Memory>(
     requires counted { IsCounted core.old }
     ensures opened { core.new.opened ≡ core.old.opened }
     ensures started { IfOk result (λ _. core.new.started ≡ core.old.started + 1) }
-    ensures in_call { IfOk result (λ _. IsInCall (logical_state core.old.opened) said core.old.history core.new.in_flight core.new.history) }
+    ensures in_call { IfOk result (λ _.
+        IsInCall (logical_state core.old.opened) said core.old.history core.new.in_flight core.new.history) }
     ensures counted { IfOk result (λ _. IsCounted core.new) }
     ensures ends { IfOk result (λ ending. EndsCall ending cut core.new) }
 {
@@ -102,7 +103,8 @@ fn answer_line<M: Memory>(
     requires counted { IsCounted core.old }
     ensures opened { core.new.opened ≡ core.old.opened }
     ensures started { IfOk result (λ _. core.new.started ≡ core.old.started + 1) }
-    ensures in_call { IfOk result (λ _. IsInCall (logical_state core.old.opened) (said_in line) core.old.history core.new.in_flight core.new.history) }
+    ensures in_call { IfOk result (λ _.
+        IsInCall (logical_state core.old.opened) (said_in line) core.old.history core.new.in_flight core.new.history) }
     ensures counted { IfOk result (λ _. IsCounted core.new) }
     ensures ends { IfOk result (λ ending. EndsCall ending cut core.new) }
 {

@@ -157,10 +157,10 @@ fn format_and_write<J: Sink>(alloc: Global, segments: u32, image_out: &mut J) ->
     }
 }
 
-/// Does the job of the words. `format` writes the image of a formatted device. `script` opens the image that it reads from
-/// `image`, runs the script that it reads from `input`, one statement after the other, and writes the image that it leaves to
-/// `image_out` and the printed history to `out`; with a cut it stops at the first moment at which so many actions were
-/// played and a statement has no reply.
+/// Does the job of the words. `format` writes the image of a formatted device. `script` opens the image that it reads
+/// from `image`, runs the script that it reads from `input`, one statement after the other, and writes the image that it
+/// leaves to `image_out` and the printed history to `out`; with a cut it stops at the first moment at which so many
+/// actions were played and a statement has no reply.
 ///
 /// The work is done in this order, and of several causes the first one is answered: the words are read; the image; the
 /// input; the image is opened; the calls run; the image is written and flushed; the text is written and flushed.
@@ -172,14 +172,14 @@ pub fn run<I: Source, S: Source, J: Sink, O: Sink>(
     image_out: &mut J,
     out: &mut O,
 ) -> Status
-    // What the call has done, by the status that it ends with: what was read, and to its end; what was written, and flushed
-    // once, behind its last byte; and which stream has failed, exactly where a fault is answered.
+    // What the call has done, by the status that it ends with: what was read, and to its end; what was written, and
+    // flushed once, behind its last byte; and which stream has failed, exactly where a fault is answered.
     ensures ends { Ends result (job_of (map string_bytes words.now))
         (streams (I.state image.old) (S.state input.old) (J.state image_out.old) (O.state out.old))
         (streams (I.state image.new) (S.state input.new) (J.state image_out.new) (O.state out.new)) }
 
-    // The status is the one that is due to the words, the image and the input, unless memory ran out or a stream failed.
-    ensures due { IfSome (I.state image.old).left (λ image_bytes. IfSome (S.state input.old).left (λ input_bytes.
+    // The status is that of the words, the image and the input, unless memory ran out or a stream failed.
+    ensures status { IfSome (I.state image.old).left (λ image_bytes. IfSome (S.state input.old).left (λ input_bytes.
         (spelled : List ℕ) → AreWordsOf image_bytes spelled
         → MayEnd (job_of (map string_bytes words.now)) image_bytes input_bytes (opening_fault spelled) result)) }
 

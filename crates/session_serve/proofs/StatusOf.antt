@@ -1,4 +1,4 @@
--- The status that a call ends with is one that is due.
+-- The status that a call ends with is one that it may end with.
 use Rattle.std.proofs.Common.{◌≡◌, inl, inr, ℕ, ◌+◌, ◌≤◌, ◌∙◌, Bool, true, false, List, ◌++◌, length, Option, None, Some, Ok, refl, ap, sym, subst, append-nil, length-append, arith}
 use Rattle.std.specs.Prelude.{IfSome, Result, nat_lt}
 use Rattle.std.proofs.lemmas.Bool.Decides.{nat_tests}
@@ -20,7 +20,7 @@ use Rattle.session_serve.specs.declared.status.Status.TheVariants as status
 use Rattle.std.specs.Io.KnownBytes.{Consumes, IsAtEnd}
 use Rattle.io_edge.specs.Streams.{SinkState, SourceState}
 use Rattle.io_edge.specs.Transfer.{Loses}
-use Rattle.session_serve.specs.Runs.{AreWordsOf, EndsScript, Finishes, IsCutOff, IsDueOfFault, IsDueOfImage, IsDueOfInput, IsDueOfOpening, IsDueOfRun, IsDueOfScript, IsTooLong, Leaving, MayEnd, MayEndScript, RanScript, ReadsImage, ReadsScript, ReadsToEnd, Streams, Told, Whichever, WritesAll, WritesFront, Writing, streams}
+use Rattle.session_serve.specs.Runs.{AreWordsOf, EndsScript, Finishes, IsCutOff, IsStatusOfFault, IsStatusOfImage, IsStatusOfInput, IsStatusOfOpening, IsStatusOfRun, IsStatusOfScript, IsTooLong, Leaving, MayEnd, MayEndScript, RanScript, ReadsImage, ReadsScript, ReadsToEnd, Streams, Told, Whichever, WritesAll, WritesFront, Writing, streams}
 
 -- ── what a source told ──
 
@@ -64,80 +64,80 @@ second-of false first second is claim = claim
 
 module _ (cut : Option ℕ) (given : Status) where
   -- the image was read
-  due-image : (image input words spelled : List ℕ) (faults : ℕ) (after : SourceState) → ReadsImage (told image faults) after words → AreWordsOf image spelled
-      → IsDueOfInput input (opening_fault words) cut given → IsDueOfImage image input (opening_fault spelled) cut given
-  due-image image input words spelled faults after read are due =
+  status-image : (image input words spelled : List ℕ) (faults : ℕ) (after : SourceState) → ReadsImage (told image faults) after words → AreWordsOf image spelled
+      → IsStatusOfInput input (opening_fault words) cut given → IsStatusOfImage image input (opening_fault spelled) cut given
+  status-image image input words spelled faults after read are due =
       let is : image ≡ spelling words = told-all image read.bytes faults after read.read ∙ read.spelled in
       let none : first_fault image ≡ None = ap first_fault is ∙ no_fault words read.image in
       let same : words ≡ spelled = one_spelling words spelled read.image (are none).0 (sym is ∙ (are none).1) in
       second-of (nat_lt LIMIT (length image)) _ _ (is_short image read.bytes faults after read.read)
-      (subst (λ (fault : Option ImageError). IsDueOfFault fault input (opening_fault spelled) cut given) (sym none)
-      (subst (λ (words : List ℕ). IsDueOfInput input (opening_fault words) cut given) same due))
+      (subst (λ (fault : Option ImageError). IsStatusOfFault fault input (opening_fault spelled) cut given) (sym none)
+      (subst (λ (words : List ℕ). IsStatusOfInput input (opening_fault words) cut given) same due))
 
   -- the script was read, or refused
-  due-script : (input : List ℕ) (fault : Option Fault) (script : Result (List Line) ScriptError) (faults : ℕ) (after : SourceState) → ReadsScript (told input faults) after script
-      → IsDueOfScript script fault cut given → IsDueOfInput input fault cut given
-  due-script input fault script faults after read due =
+  status-script : (input : List ℕ) (fault : Option Fault) (script : Result (List Line) ScriptError) (faults : ℕ) (after : SourceState) → ReadsScript (told input faults) after script
+      → IsStatusOfScript script fault cut given → IsStatusOfInput input fault cut given
+  status-script input fault script faults after read due =
       let is : script_of input ≡ script = ap script_of (told-all input read.bytes faults after read.read) ∙ read.spelled in
       second-of (nat_lt LIMIT (length input)) _ _ (is_short input read.bytes faults after read.read)
-      (subst (λ (script : Result (List Line) ScriptError). IsDueOfScript script fault cut given) (sym is) due)
+      (subst (λ (script : Result (List Line) ScriptError). IsStatusOfScript script fault cut given) (sym is) due)
 
   -- the image was opened
-  due-opened : (words : List ℕ) → opening_fault words ≡ None → IsDueOfRun cut given → IsDueOfOpening (opening_fault words) cut given
-  due-opened words none due = subst (λ (fault : Option Fault). IsDueOfOpening fault cut given) (sym none) due
+  status-opened : (words : List ℕ) → opening_fault words ≡ None → IsStatusOfRun cut given → IsStatusOfOpening (opening_fault words) cut given
+  status-opened words none due = subst (λ (fault : Option Fault). IsStatusOfOpening fault cut given) (sym none) due
 
-due-finished : (cut : Option ℕ) → IsDueOfRun cut status.Done
-due-finished None = tt
-due-finished (Some number) = tt
+status-finished : (cut : Option ℕ) → IsStatusOfRun cut status.Done
+status-finished None = tt
+status-finished (Some number) = tt
 
-due-failed : (cut : Option ℕ) → IsDueOfRun cut status.WriteFault
-due-failed None = tt
-due-failed (Some number) = tt
+status-failed : (cut : Option ℕ) → IsStatusOfRun cut status.WriteFault
+status-failed None = tt
+status-failed (Some number) = tt
 
-due-cut : (cut : Option ℕ) (number : ℕ) → cut ≡ Some number → IsDueOfRun cut status.PowerCut
-due-cut None number is = cc
-due-cut (Some other) number is = tt
+status-cut : (cut : Option ℕ) (number : ℕ) → cut ≡ Some number → IsStatusOfRun cut status.PowerCut
+status-cut None number is = cc
+status-cut (Some other) number is = tt
 
 module _ (cut : Option ℕ) (keep : Keep) (image input spelled : List ℕ) (n k : ℕ) (image_out out : SinkState) (after : Streams) (are : AreWordsOf image spelled) where
   -- a run that was written
-  due-ran : (given : Status) (Leaves : Leaving) (Writes : Writing) → RanScript Leaves Writes (streams (told image n) (told input k) image_out out) after
-      → ((words : List ℕ) (script : List Line) (image text : List ℕ) → Leaves words script image text → (opening_fault words ≡ None) × IsDueOfRun cut given)
-      → IsDueOfImage image input (opening_fault spelled) cut given
-  due-ran given Leaves Writes ran tells =
+  status-ran : (given : Status) (Leaves : Leaving) (Writes : Writing) → RanScript Leaves Writes (streams (told image n) (told input k) image_out out) after
+      → ((words : List ℕ) (script : List Line) (image text : List ℕ) → Leaves words script image text → (opening_fault words ≡ None) × IsStatusOfRun cut given)
+      → IsStatusOfImage image input (opening_fault spelled) cut given
+  status-ran given Leaves Writes ran tells =
       let left = tells ran.words ran.script ran.run.image ran.run.text ran.run.left in
-      due-image cut given image input ran.words spelled n after.image ran.read_image are
-      (due-script cut given input (opening_fault ran.words) (Ok ran.script) k after.input ran.read_script (due-opened cut given ran.words left.0 left.1))
+      status-image cut given image input ran.words spelled n after.image ran.read_image are
+      (status-script cut given input (opening_fault ran.words) (Ok ran.script) k after.input ran.read_script (status-opened cut given ran.words left.0 left.1))
 
-  due-ends : (given : Status) → EndsScript given cut keep (streams (told image n) (told input k) image_out out) after → MayEndScript image input (opening_fault spelled) cut given
-  due-ends status.Done ends = due-ran status.Done (Finishes cut) WritesAll ends (λ words script image text left. (left.run.accepted, due-finished cut))
-  due-ends status.PowerCut ends =
-      due-ran status.PowerCut (IsCutOff cut keep) WritesAll ends (λ words script image text left. (left.run.accepted, due-cut cut left.number left.cut_is))
-  due-ends status.WriteFault (inl ends) = due-ran status.WriteFault (Finishes cut) WritesFront ends (λ words script image text left. (left.run.accepted, due-failed cut))
-  due-ends status.WriteFault (inr ends) = due-ran status.WriteFault (IsCutOff cut keep) WritesFront ends (λ words script image text left. (left.run.accepted, due-failed cut))
-  due-ends (status.BadScript number rule) ends =
-      due-image cut (status.BadScript number rule) image input ends.words spelled n after.image ends.read_image are
-      (due-script cut (status.BadScript number rule) input (opening_fault ends.words) _ k after.input ends.read_script refl)
-  due-ends (status.BadBytes error) ends =
+  status-ends : (given : Status) → EndsScript given cut keep (streams (told image n) (told input k) image_out out) after → MayEndScript image input (opening_fault spelled) cut given
+  status-ends status.Done ends = status-ran status.Done (Finishes cut) WritesAll ends (λ words script image text left. (left.run.accepted, status-finished cut))
+  status-ends status.PowerCut ends =
+      status-ran status.PowerCut (IsCutOff cut keep) WritesAll ends (λ words script image text left. (left.run.accepted, status-cut cut left.number left.cut_is))
+  status-ends status.WriteFault (inl ends) = status-ran status.WriteFault (Finishes cut) WritesFront ends (λ words script image text left. (left.run.accepted, status-failed cut))
+  status-ends status.WriteFault (inr ends) = status-ran status.WriteFault (IsCutOff cut keep) WritesFront ends (λ words script image text left. (left.run.accepted, status-failed cut))
+  status-ends (status.BadScript number rule) ends =
+      status-image cut (status.BadScript number rule) image input ends.words spelled n after.image ends.read_image are
+      (status-script cut (status.BadScript number rule) input (opening_fault ends.words) _ k after.input ends.read_script refl)
+  status-ends (status.BadBytes error) ends =
       let is : first_fault image ≡ Some error = ap first_fault (told-all image ends.0.bytes n after.image ends.0.read) ∙ ends.0.fault in
       second-of (nat_lt LIMIT (length image)) _ _ (is_short image ends.0.bytes n after.image ends.0.read)
-      (subst (λ (fault : Option ImageError). IsDueOfFault fault input (opening_fault spelled) cut (status.BadBytes error)) (sym is) refl)
-  due-ends (status.BadImage rule place) ends =
-      due-image cut (status.BadImage rule place) image input ends.words spelled n after.image ends.read_image are
-      (due-script cut (status.BadImage rule place) input (opening_fault ends.words) (Ok ends.script) k after.input ends.read_script
-      (subst (λ (fault : Option Fault). IsDueOfOpening fault cut (status.BadImage rule place)) (sym ends.fault_is) refl))
-  due-ends status.InputTooLong (inl ends) = first-of (nat_lt LIMIT (length image)) _ _ (is_long image n after.image ends.0) refl
-  due-ends status.InputTooLong (inr ends) =
-      due-image cut status.InputTooLong image input ends.0.0 spelled n after.image ends.0.1 are
+      (subst (λ (fault : Option ImageError). IsStatusOfFault fault input (opening_fault spelled) cut (status.BadBytes error)) (sym is) refl)
+  status-ends (status.BadImage rule place) ends =
+      status-image cut (status.BadImage rule place) image input ends.words spelled n after.image ends.read_image are
+      (status-script cut (status.BadImage rule place) input (opening_fault ends.words) (Ok ends.script) k after.input ends.read_script
+      (subst (λ (fault : Option Fault). IsStatusOfOpening fault cut (status.BadImage rule place)) (sym ends.fault_is) refl))
+  status-ends status.InputTooLong (inl ends) = first-of (nat_lt LIMIT (length image)) _ _ (is_long image n after.image ends.0) refl
+  status-ends status.InputTooLong (inr ends) =
+      status-image cut status.InputTooLong image input ends.0.0 spelled n after.image ends.0.1 are
       (first-of (nat_lt LIMIT (length input)) _ _ (is_long input k after.input ends.1) refl)
-  due-ends status.ReadFault ends = tt
-  due-ends status.NoMemory ends = tt
-  due-ends status.Usage ends = absurd ends
+  status-ends status.ReadFault ends = tt
+  status-ends status.NoMemory ends = tt
+  status-ends status.Usage ends = absurd ends
 
-pub due-job : (found : Option Job) (cut : Option ℕ) (keep : Keep) (given : Status) (image input image_now input_now : SourceState) (image_out out image_out_now out_now : SinkState)
+pub status-job : (found : Option Job) (cut : Option ℕ) (keep : Keep) (given : Status) (image input image_now input_now : SourceState) (image_out out image_out_now out_now : SinkState)
     → found ≡ Some (job.Script cut keep)
     → EndsScript given cut keep (streams image input image_out out) (streams image_now input_now image_out_now out_now)
     → IfSome image.left (λ image_bytes. IfSome input.left (λ input_bytes. (spelled : List ℕ) → AreWordsOf image_bytes spelled → MayEnd found image_bytes input_bytes (opening_fault spelled) given))
-due-job found cut keep given image input image_now input_now image_out out image_out_now out_now is ends = by_told image.left input.left image.faults input.faults ends
+status-job found cut keep given image input image_now input_now image_out out image_out_now out_now is ends = by_told image.left input.left image.faults input.faults ends
   where
     by_told : (left input_left : Told) (n k : ℕ) → EndsScript given cut keep
         (streams (record { left = left; faults = n }) (record { left = input_left; faults = k }) image_out out) (streams image_now input_now image_out_now out_now)
@@ -146,4 +146,4 @@ due-job found cut keep given image input image_now input_now image_out out image
     by_told (Some image) None n k ends = tt
     by_told (Some image) (Some input) n k ends =
         λ spelled are. subst (λ (found : Option Job). MayEnd found image input (opening_fault spelled) given) (sym is)
-        (due-ends cut keep image input spelled n k image_out out (streams image_now input_now image_out_now out_now) are given ends)
+        (status-ends cut keep image input spelled n k image_out out (streams image_now input_now image_out_now out_now) are given ends)
