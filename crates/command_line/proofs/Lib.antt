@@ -5,3 +5,4 @@ pub mod Walking
 pub mod Values
 pub mod Parsing
 pub mod Commands
+pub mod EachPart

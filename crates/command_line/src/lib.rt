@@ -11,6 +11,7 @@
 
 mod arguments;
 mod command;
+pub mod laws;
 mod words;
 
 pub use arguments::WordsError;
