@@ -41,8 +41,3 @@ pub use object::{plan_begin, push_entry, push_retire, retire_room};
 pub use owned::owned_segments_law;
 pub use pm_model::NoMemory;
 pub use reading::{entries, free_entries};
-
-#[cfg(test)]
-mod tests;
-#[cfg(test)]
-mod transaction_tests;

@@ -1,5 +1,0 @@
-use Rattle.txn_object.proofs.TestObject.{none_packed}
-use Rattle.txn_object.proofs.tests.check_full.Goals as goal
-
-pub entries-requires-clause-packed : goal.entries-requires-clause-packed
-entries-requires-clause-packed g c = none_packed (g.M.Memory.device c.args.memory.now).cached c.requires.none

@@ -1,7 +1,0 @@
-use Rattle.txn_object.specs.TestObject.{IsExtendable}
-use Rattle.txn_object.proofs.tests.fill.Given as goal
-
-abbrev pub invariant-loop-segment : goal.invariant-loop-segment
-invariant-loop-segment g l = record {
-  extendable : IsExtendable (g.M.Memory.device l.memory) l.heap;
-}
