@@ -29,6 +29,14 @@ impl Model for Tree {
 }
 
 impl Tree {
+    /// The tree of the column with this record, and this index.
+    pub(crate) fn of(column: Place, inner: Inner) -> Tree
+        ensures column { result.column ≡ column.0 }
+        ensures inner { result.inner ≡ inner }
+    {
+        Tree { column, inner }
+    }
+
     /// The code of a key. It visits one leaf, and compares keys there only at slots with the fingerprint of what is looked
     /// for. A step is one comparison.
     pub fn find<M: Memory, L: Ledger>(
