@@ -22,8 +22,8 @@ pub record IsBetweenLeaves (words : List ℕ) (key : ℕ) (before after : List �
   pub above : Each (λ leaf. Each (λ pair. pair.key < key) (leaf_pairs words leaf)) before
   pub below : Each (λ leaf. Each (λ pair. key < pair.key) (leaf_pairs words leaf)) after
 
--- What the words after an insertion show: one pair more, in the same leaves, of which each has the fingerprints of its keys
--- still. The keys stay in order from leaf to leaf, where the new one stands between the leaves around its own.
+-- What the words after an insertion show: one pair more, in the same leaves, each of which has the fingerprints of its
+-- keys still. The keys stay in order from leaf to leaf, where the new one stands between the leaves around its own.
 pub record EndsInsertion (column : ℕ) (before after : List ℕ) (i : Insertion) (base words : List ℕ) : Type 0 where
   pub one_more : ShowsOneMore column (inserted_pair i) base words
   pub tree : IsTree words column (before ++ i.leaf ∷ after)
@@ -103,8 +103,8 @@ new_leaves s = s.before ++ s.leaf ∷ new_leaf s.choice ∷ s.after
 abbrev pub both_leaves : Splitting → Split
 both_leaves s = record { leaf = s.leaf; new = new_leaf s.choice }
 
--- The leaf is full, no split is at work, and the new leaf shares no word with the others. The word in which the split is
--- noted is no descriptor: so noting it leaves what the allocation reads.
+-- The leaf is full, no split is at work, and the new leaf shares no word with the others. The word in which the split
+-- is noted is no descriptor: so noting it leaves what the allocation reads.
 pub record MayBeSplit (s : Splitting) (base : List ℕ) : Type 0 where
   pub tree : IsTree base s.column (old_leaves s)
   pub quiet : HasNoSplit base s.column
@@ -114,8 +114,8 @@ pub record MayBeSplit (s : Splitting) (base : List ℕ) : Type 0 where
   pub apart : Each (λ leaf. AreApart leaf 104 (new_leaf s.choice) 104) (old_leaves s)
   pub noted : 64 ≤ split_leaf_at s.column % 32768
 
--- What the words after it show: the same pairs, with the new leaf behind the one that was split, and a free slot in both.
--- The order of keys and the fingerprints go on.
+-- What the words after it show: the same pairs, with the new leaf behind the one that was split, and a free slot in
+-- both. The order of keys and the fingerprints go on.
 pub record EndsSplit (s : Splitting) (base words : List ℕ) : Type 0 where
   pub same : ShowsSame s.column base words
   pub tree : IsTree words s.column (new_leaves s)
@@ -123,7 +123,8 @@ pub record EndsSplit (s : Splitting) (base words : List ℕ) : Type 0 where
   pub free : HasFreeSlot words s.leaf × HasFreeSlot words (new_leaf s.choice)
   pub ordered : AreOrdered base (old_leaves s) → AreOrdered words (new_leaves s)
   pub prints : HavePrints base (old_leaves s) → HavePrints words (new_leaves s)
-  pub room : (key : ℕ) → leaf_for base key (old_leaves s) ≡ s.leaf → HasFreeSlot words (leaf_for words key (new_leaves s))
+  pub room : (key : ℕ) → leaf_for base key (old_leaves s) ≡ s.leaf
+      → HasFreeSlot words (leaf_for words key (new_leaves s))
 
 abbrev pub splitting : Splitting → Change
 splitting s = record {

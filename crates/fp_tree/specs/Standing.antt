@@ -52,10 +52,11 @@ pub record IsIndexOf (words : List ℕ) (leaves : List ℕ) (inner : InnerState)
 -- A leaf has 48 slots, and the codes of those that are used have 32 bits.
 pub record IsSoundLeaf (words : List ℕ) (leaf : ℕ) : Type 0 where
   pub bitmap : slice_index words leaf < 2 ^ 48
-  pub codes : (slot : ℕ) → slot < 48 → bit_at (slice_index words leaf) slot ≡ 1 → slice_index words (code_at leaf slot) < 2 ^ 32
+  pub codes : (slot : ℕ) → slot < 48 → bit_at (slice_index words leaf) slot ≡ 1
+      → slice_index words (code_at leaf slot) < 2 ^ 32
 
--- The words have the tree of a column of integers, with no split at work. Its leaves are in the order of their keys, and each
--- has the fingerprints of its keys.
+-- The words have the tree of a column of integers, with no split at work. Its leaves are in the order of their keys, and
+-- each has the fingerprints of its keys.
 pub record IsSoundTree (words : List ℕ) (column : ℕ) (leaves : List ℕ) : Type 0 where
   pub tree_is : IsTree words column leaves
   pub quiet : HasNoSplit words column
@@ -88,7 +89,8 @@ print_of (Text text) = text_fingerprint text.now
 
 -- the column has a pair with that key and this code
 abbrev pub HasPair : List ℕ → ℕ → Probe → ℕ → Type 0
-HasPair words column probe code = Any (λ pair. IsTrue (is_key words probe pair.key) × (pair.code ≡ code)) (pairs words column)
+HasPair words column probe code =
+    Any (λ pair. IsTrue (is_key words probe pair.key) × (pair.code ≡ code)) (pairs words column)
 
 -- no pair of the column has that key
 abbrev pub HasNoKey : List ℕ → ℕ → Probe → Type 0
@@ -101,7 +103,8 @@ has_key_up_to words probe leaf = list_any (λ pair. not (is_below words probe pa
 -- the last of these leaves with such a key, else the one that was found before
 abbrev pub last_up_to : List ℕ → Probe → ℕ → List ℕ → ℕ
 last_up_to words probe found [] = found
-last_up_to words probe found (leaf ∷ leaves) = last_up_to words probe (if has_key_up_to words probe leaf then leaf else found) leaves
+last_up_to words probe found (leaf ∷ leaves) =
+    last_up_to words probe (if has_key_up_to words probe leaf then leaf else found) leaves
 
 -- the last of these leaves with such a key, else the first
 abbrev pub leaf_of : List ℕ → Probe → List ℕ → ℕ
@@ -119,9 +122,11 @@ count_below test (suc number) = count_below test number + (if test number then 1
 
 -- a slot of a leaf is used and has the fingerprint of what is looked for
 abbrev pub is_likely : List ℕ → ℕ → Probe → ℕ → Bool
-is_likely words leaf probe slot = is_used (slice_index words leaf) slot && (slot_fingerprint words leaf slot == print_of probe)
+is_likely words leaf probe slot =
+    is_used (slice_index words leaf) slot && (slot_fingerprint words leaf slot == print_of probe)
 
 -- what there is room for: by the leaf of what is looked for, where the column has one
 abbrev pub room_in : List ℕ → Probe → List ℕ → Room
 room_in words probe [] = NoLeaf
-room_in words probe (leaf ∷ leaves) = if is_full_leaf words (leaf_of words probe (indexed words (leaf ∷ leaves))) then LeafFull else Free
+room_in words probe (leaf ∷ leaves) =
+    if is_full_leaf words (leaf_of words probe (indexed words (leaf ∷ leaves))) then LeafFull else Free

@@ -29,7 +29,8 @@ const HEAD_WORDS: u32 = 8;
 pub(crate) fn first_words<M: Memory>(mem: &M, leaf: Place, count: u32) -> [u64; 104]
     requires count { count ≤ 104 }
     requires within { leaf.0 + 104 ≤ length (M.device mem.now).cached }
-    ensures { (word : ℕ) → word < count → slice_index result word ≡ slice_index (M.device mem.now).cached (leaf.0 + word) }
+    ensures { (word : ℕ) → word < count →
+        slice_index result word ≡ slice_index (M.device mem.now).cached (leaf.0 + word) }
 {
     let mut words = [0; LEAF_WORDS as usize];
     for word in 0..count {

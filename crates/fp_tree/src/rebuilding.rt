@@ -12,8 +12,8 @@ use mv_model::Kind;
 use pm_model::{Memory, NoMemory, PPtr, Place, first_leaf, named_place};
 use std::alloc::Global;
 
-/// The tree of the column with this record, in one pass over its leaves. A leaf without a pair isn't given to the index,
-/// unless no leaf has one: then the first is.
+/// The tree of the column with this record, in one pass over its leaves. A leaf without a pair isn't given to the
+/// index, unless no leaf has one: then the first is.
 pub fn rebuild<M: Memory>(alloc: Global, mem: &M, column: Place) -> Result<Tree, NoMemory>
     requires { HasSoundTree (M.device mem.now).cached column.0 }
     ensures column { IfOk result (λ tree. tree.column ≡ column.0) }

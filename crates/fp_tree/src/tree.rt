@@ -12,8 +12,8 @@ use pm_model::{Memory, Place};
 use std::marker::{Brand, Model};
 use std::sync::ledger::{Blank, Ledger};
 
-/// The tree of a column, which is named by the place of its record. It stands for the words of a memory: their leaves are
-/// its leaves.
+/// The tree of a column, which is named by the place of its record. It stands for the words of a memory: their leaves
+/// are its leaves.
 #[derive(Drop)]
 pub struct Tree {
     column: Place,
@@ -37,8 +37,8 @@ impl Tree {
         Tree { column, inner }
     }
 
-    /// The code of a key. It visits one leaf, and compares keys there only at slots with the fingerprint of what is looked
-    /// for. A step is one comparison.
+    /// The code of a key. It visits one leaf, and compares keys there only at slots with the fingerprint of what is
+    /// looked for. A step is one comparison.
     pub fn find<M: Memory, L: Ledger>(
         &self,
         mem: &M,
@@ -59,7 +59,8 @@ impl Tree {
         }
     }
 
-    /// Whether there is room for a key: the leaf in which it would stand has a free slot or none, or the tree has no leaf.
+    /// Whether there is room for a key: the leaf in which it would stand has a free slot or none, or the tree has no
+    /// leaf.
     pub fn room<M: Memory>(&self, mem: &M, probe: &Probe) -> Room
         requires stands { Stands (M.device mem.now).cached self.now }
         requires kind { kind_of probe.now ≡ self.now.inner.kind }
