@@ -4,11 +4,11 @@ use Rattle.std.specs.Prelude.{ℕ, ◌+◌, ◌-◌, ◌/◌, ◌^◌, min, Bool
 use Rattle.std.specs.List.{flat_map, list_any}
 use Rattle.image_layout.specs.Fixed.{commit_word_at, last_at, magic_at, ready_at, state_at, table_count_at, table_slot_at, version_at}
 use Rattle.image_layout.specs.Places.{below, is_in_segment, is_null_or_pointer_to, is_pointer, is_pointer_to, packed_byte, place_in}
-use Rattle.image_layout.specs.Records.{column_name_at, columns_at, created_header, ended_header, first_leaf_at, key_at, kind_at, new_leaf_at, next_leaf_at, split_leaf_at, table_name_at, table_words}
+use Rattle.image_layout.specs.Records.{column_name_at, created_header, ended_header, extension_words, first_leaf_at, key_at, kind_at, new_leaf_at, next_leaf_at, since_at, split_leaf_at, table_name_at, table_words}
 use Rattle.image_layout.specs.Fresh.{magic_number}
 use Rattle.image_layout.specs.Blocks.{is_block_pointer}
 use Rattle.image_layout.specs.Arrays.{capacity, array_rule}
-use Rattle.image_layout.specs.Tables.{table_count, table_block, table_blocks, columns_of, all_columns, is_text, array_headers}
+use Rattle.image_layout.specs.Tables.{table_count, table_block, table_blocks, all_columns, array_headers, column_count, column_record, extension_count, extension_of, extension_pointer_at, inner_columns, is_first_version, is_text, last_extension_pointer}
 use Rattle.image_layout.specs.Objects.{is_open, commit_word, ready_count, segment_pointer_at, segment_of, pointer_after, entry_places, entry_kind, entry_table, entry_row}
 use Rattle.image_layout.specs.Trees.{stored_leaves, leaf_list, leaf_slots, text_length, text_words}
 use Rattle.image_layout.specs.Checks.{Check, check, Rule, Keeps, Numbered, numbered, Fault, first_fault}
@@ -22,9 +22,9 @@ is_among numbers number = list_any (λ other. other == number) numbers
 abbrev pub magic_rule : Rule
 magic_rule words = check magic_at (slice_index words magic_at == magic_number) ∷ []
 
--- 2: the version of the format is 1
+-- 2: the version of the format is 1 or 2
 abbrev pub version_rule : Rule
-version_rule words = check version_at (slice_index words version_at == 1) ∷ []
+version_rule words = check version_at ((slice_index words version_at == 1) || (slice_index words version_at == 2)) ∷ []
 
 -- 3: the last number is at most 2^40 - 1
 abbrev pub last_rule : Rule
@@ -34,11 +34,14 @@ last_rule words = check last_at (nat_le (slice_index words last_at) (2 ^ 40 - 1)
 abbrev pub table_count_rule : Rule
 table_count_rule words = check table_count_at (nat_le (table_count words) 32) ∷ []
 
--- the word is the pointer of a table block with 1 to 16 columns that lies in one segment
+-- the word is the pointer of a table block that lies in one segment, of a table with 1 to 16 columns, the first of which
+-- stand in the block
 abbrev pub is_table_pointer : List ℕ → ℕ → Bool
 is_table_pointer words word =
-    let columns = slice_index words (columns_at (place_in word)) in
-    is_pointer words word && nat_le 1 columns && nat_le columns 16 && is_in_segment (place_in word) (table_words columns)
+    let columns = column_count words (place_in word) in
+    let inner = inner_columns words (place_in word) in
+    is_pointer words word && nat_le 1 inner && nat_le inner columns && nat_le columns 16
+    && is_in_segment (place_in word) (table_words inner)
 
 abbrev pub is_table_slot : List ℕ → ℕ → Bool
 is_table_slot words table =
@@ -47,9 +50,37 @@ is_table_slot words table =
     else if table == table_count words then (word == 0) || is_block_pointer words word
     else word == 0)
 
--- 9: table slots below the count name tables, the one at the count is null or a block's pointer, and the others are null
+-- an extension's pointer: the extension lies in one segment, and the table hasn't reached it before
+abbrev pub is_extension_pointer : List ℕ → ℕ → ℕ → Bool
+is_extension_pointer words block extension =
+    is_pointer_to words extension_words (slice_index words (extension_pointer_at words block extension))
+    && not (is_among (map (extension_of words block) (below extension)) (extension_of words block extension))
+
+abbrev pub extension_pointer_check : List ℕ → ℕ → ℕ → Check
+extension_pointer_check words block extension =
+    check (extension_pointer_at words block extension) (is_extension_pointer words block extension)
+
+-- the pointer after the published columns is null, or names an extension that the table owns and hasn't published
+abbrev pub last_pointer_check : List ℕ → ℕ → Check
+last_pointer_check words block =
+    check (last_extension_pointer words block) (is_null_or_pointer_to words extension_words (slice_index words (last_extension_pointer words block)))
+
+-- In version 2 the extensions of a table's columns are reached by their pointers, none twice.
+unfoldable pub extension_checks : List ℕ → ℕ → List Check
+extension_checks words block =
+    (if is_first_version words then []
+    else map (extension_pointer_check words block) (below (extension_count words block)) ++ last_pointer_check words block ∷ [])
+
+-- the slot of a table, and behind it the extensions of a published table
+abbrev pub table_slot_checks : List ℕ → ℕ → List Check
+table_slot_checks words table =
+    check (table_slot_at table) (is_table_slot words table)
+    ∷ (if nat_lt table (table_count words) then extension_checks words (table_block words table) else [])
+
+-- 9: table slots below the count name tables, whose extensions are reached; the one at the count is null or a block's
+-- pointer; and the others are null
 unfoldable pub table_slot_rule : Rule
-table_slot_rule words = map (λ table. check (table_slot_at table) (is_table_slot words table)) (below 32)
+table_slot_rule words = flat_map (table_slot_checks words) (below 32)
 
 -- 10: the arrays of each table
 unfoldable pub arrays_rule : Rule
@@ -107,11 +138,25 @@ name_checks words place = map (λ byte. check (place + byte / 8) (is_padded_name
 abbrev pub kind_check : List ℕ → ℕ → Check
 kind_check words column = check (kind_at column) ((slice_index words (kind_at column) == 1) || (slice_index words (kind_at column) == 2))
 
+-- in version 2 a column that stands in its table's block has a word for every row
+unfoldable pub since_checks : List ℕ → ℕ → ℕ → List Check
+since_checks words block column =
+    (if not (is_first_version words) && nat_lt column (inner_columns words block)
+    then check (since_at (column_record words block column)) (slice_index words (since_at (column_record words block column)) == 0) ∷ []
+    else [])
+
+-- a column of a table by its number
+abbrev pub column_name_checks : List ℕ → ℕ → ℕ → List Check
+column_name_checks words block column =
+    kind_check words (column_record words block column)
+    ∷ name_checks words (column_name_at (column_record words block column))
+    ++ since_checks words block column
+
 -- 12: names and kinds, table by table
 unfoldable pub name_rule : Rule
 name_rule words =
-    flat_map (λ block. name_checks words (table_name_at block)
-    ++ flat_map (λ column. kind_check words column ∷ name_checks words (column_name_at column)) (columns_of words block)) (table_blocks words)
+    flat_map (λ block. name_checks words (table_name_at block) ++ flat_map (column_name_checks words block) (below (column_count words block)))
+    (table_blocks words)
 
 -- the word is the pointer of a text of at most 2,000 bytes that lies in one segment
 abbrev pub is_text_pointer : List ℕ → ℕ → Bool

@@ -16,7 +16,7 @@ abbrev pub fresh_word : ℕ → ℕ
 fresh_word place =
     if is_reserved_descriptor place then 8
     else if place == magic_at then magic_number
-    else if place == version_at then 1
+    else if place == version_at then 2
     else 0
 
 -- the words of a formatted image of so many segments, place by place

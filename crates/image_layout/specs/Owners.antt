@@ -3,10 +3,10 @@ use Rattle.std.specs.Prelude.{◌≡◌, ◌≢◌, ◌⊎◌, ℕ, ◌+◌, min
 use Rattle.std.specs.List.{flat_map, list_any}
 use Rattle.image_layout.specs.Fixed.{lane_op_at, lane_dest_at, lane_block_at, table_slot_at}
 use Rattle.image_layout.specs.Places.{below, is_pointer, place_in}
-use Rattle.image_layout.specs.Records.{codes_header, columns_at, created_header, dictionary_header, ended_header, first_leaf_at, new_leaf_at, next_leaf_at, split_leaf_at, table_words}
+use Rattle.image_layout.specs.Records.{codes_header, created_header, dictionary_header, ended_header, extension_words, first_leaf_at, new_leaf_at, next_leaf_at, split_leaf_at, table_words}
 use Rattle.image_layout.specs.Blocks.{block_words, live_blocks, is_live}
 use Rattle.image_layout.specs.Arrays.{chunk_words, chunk_count, capacity, place_of, array_places, chunk_pointer_at}
-use Rattle.image_layout.specs.Tables.{table_count, table_block, columns_of, all_columns, array_headers, is_text}
+use Rattle.image_layout.specs.Tables.{table_count, table_block, columns_of, all_columns, array_headers, extension_count, extension_pointer_at, inner_columns, is_first_version, is_text, last_extension_pointer}
 use Rattle.image_layout.specs.Objects.{ready_count, segment_pointer_at, pointer_after}
 use Rattle.image_layout.specs.Trees.{stored_leaves, used_pairs, dictionary_length, text_length, text_words}
 
@@ -65,11 +65,21 @@ column_owners words column =
     ++ map leaf_owner (link_places words column) ++ text_owners words column
 
 abbrev pub table_owner : List ℕ → ℕ → Owner
-table_owner words table = owner_of (table_slot_at table) (table_words (slice_index words (columns_at (table_block words table))))
+table_owner words table = owner_of (table_slot_at table) (table_words (inner_columns words (table_block words table)))
+
+abbrev pub extension_owner : List ℕ → ℕ → ℕ → Owner
+extension_owner words block extension = owner_of (extension_pointer_at words block extension) extension_words
+
+-- The pointers to a table's extensions, and the one after the published columns, where they name a block. In version 1
+-- there are none.
+unfoldable pub extension_owners : List ℕ → ℕ → List Owner
+extension_owners words block =
+    (if is_first_version words then []
+    else filter (names_one words) (map (extension_owner words block) (below (extension_count words block + 1))))
 
 abbrev pub block_owners : List ℕ → ℕ → List Owner
 block_owners words block =
-    array_owners words (created_header block) ++ array_owners words (ended_header block) ++ flat_map (column_owners words) (columns_of words block)
+    extension_owners words block ++ array_owners words (created_header block) ++ array_owners words (ended_header block) ++ flat_map (column_owners words) (columns_of words block)
 
 -- a table's slot, then the owner words of the table
 abbrev pub table_owners : List ℕ → ℕ → List Owner
@@ -157,6 +167,10 @@ lane_block words lane = slice_index words (lane_block_at lane)
 abbrev pub next_chunk_pointers : List ℕ → ℕ → List ℕ
 next_chunk_pointers words header = (if nat_lt (chunk_count words header) 12 then chunk_pointer_at header (chunk_count words header) ∷ [] else [])
 
+-- the extension pointer after a table's published columns
+abbrev pub next_extension_pointers : List ℕ → ℕ → List ℕ
+next_extension_pointers words block = (if is_first_version words then [] else last_extension_pointer words block ∷ [])
+
 -- the words into which a lane may be allocating, or from which it may be freeing
 abbrev pub lane_targets : List ℕ → List ℕ
 lane_targets words =
@@ -164,6 +178,7 @@ lane_targets words =
     ++ flat_map (λ table. flat_map (next_chunk_pointers words) (array_headers words (table_block words table))) (below (table_count words))
     ++ map new_leaf_at (all_columns words)
     ++ map (pointer_after words) (below 16)
+    ++ flat_map (λ table. next_extension_pointers words (table_block words table)) (below (table_count words))
 
 -- Owner words name live blocks, and no two of them one block, whatever a power cut left half done.
 pub record OwnersAreApart (words : List ℕ) : Type 0 where

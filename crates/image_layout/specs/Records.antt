@@ -1,8 +1,9 @@
 -- Where the words of a record stand. A record is named by the place where it begins, and a field by the place of its word.
 use Rattle.std.specs.Prelude.{ℕ, ◌+◌, ◌*◌, ◌/◌}
 
--- Words of a table block: the number of its columns, a bound on its stamped rows, its name of three words, the headers
--- of the arrays of the commits that created each row and that ended it, and the record of each column.
+-- Words of a table block: the number of all columns, a bound on its stamped rows, its name of three words, the pointer of
+-- the first extension, the number of the columns that stand in the block, the headers of the arrays of the commits that
+-- created each row and that ended it, and the records of those columns. The pointer and the second number are of version 2.
 abbrev pub columns_at : ℕ → ℕ
 columns_at block = block
 
@@ -11,6 +12,12 @@ high_at block = block + 1
 
 abbrev pub table_name_at : ℕ → ℕ
 table_name_at block = block + 2
+
+abbrev pub first_extension_at : ℕ → ℕ
+first_extension_at block = block + 5
+
+abbrev pub inner_columns_at : ℕ → ℕ
+inner_columns_at block = block + 6
 
 abbrev pub created_header : ℕ → ℕ
 created_header block = block + 8
@@ -21,12 +28,21 @@ ended_header block = block + 24
 abbrev pub column_at : ℕ → ℕ → ℕ
 column_at block column = block + 40 + 40 * column
 
--- the words of a table block with so many columns
+-- the words of a table block with so many columns in it
 abbrev pub table_words : ℕ → ℕ
 table_words columns = 40 + 40 * columns
 
+-- An extension is a block with one more column of a table: the pointer of the next extension, and behind its first line the
+-- column's record.
+abbrev pub extension_words : ℕ
+extension_words = 48
+
+abbrev pub extension_column_at : ℕ → ℕ
+extension_column_at extension = extension + 8
+
 -- Words of a column record: its kind, its name of three words, the pointer to its first leaf, the leaf that is being
--- split, the leaf that is being added, and the headers of the arrays of the rows' codes and of the dictionary.
+-- split, the leaf that is being added, the first row that the column has a word for, and the headers of the arrays of the
+-- rows' codes and of the dictionary.
 abbrev pub kind_at : ℕ → ℕ
 kind_at column = column
 
@@ -41,6 +57,9 @@ split_leaf_at column = column + 5
 
 abbrev pub new_leaf_at : ℕ → ℕ
 new_leaf_at column = column + 6
+
+abbrev pub since_at : ℕ → ℕ
+since_at column = column + 7
 
 abbrev pub codes_header : ℕ → ℕ
 codes_header column = column + 8

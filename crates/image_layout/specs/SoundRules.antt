@@ -1,15 +1,15 @@
 -- The rules that an image at rest keeps beside those of `EntryRules`: nothing is half done, each block has one owner,
 -- and trees, dictionaries and stamps fit together. They are tried in the order of `rest_rules`, after those.
-use Rattle.std.specs.Prelude.{ℕ, ◌+◌, ◌-◌, ◌^◌, min, max, Bool, not, ◌&&◌, ◌||◌, ◌==◌, nat_lt, nat_le, if◌then◌else◌, Option, List, [], ◌∷◌, ◌++◌, map, filter, slice_index}
+use Rattle.std.specs.Prelude.{ℕ, ◌+◌, ◌-◌, ◌^◌, min, max, Bool, false, not, ◌&&◌, ◌||◌, ◌==◌, nat_lt, nat_le, if◌then◌else◌, Option, List, [], ◌∷◌, ◌++◌, map, filter, slice_index}
 use Rattle.std.specs.List.{flat_map, list_all, list_any, range_with_len}
 use Rattle.std.specs.Str.{is_utf8}
 use Rattle.image_layout.specs.Pointer.{pointer_word}
-use Rattle.image_layout.specs.Fixed.{commit_word_at, lane_op_at, last_at, state_at}
+use Rattle.image_layout.specs.Fixed.{commit_word_at, lane_op_at, last_at, state_at, version_at}
 use Rattle.image_layout.specs.Places.{below, page_at, page_count, place_in}
 use Rattle.image_layout.specs.Records.{code_at, codes_header, column_name_at, created_header, dictionary_header, ended_header, fingerprint_at, high_at, key_at, new_leaf_at, split_leaf_at, table_name_at}
 use Rattle.image_layout.specs.Blocks.{is_given_back, live_blocks}
 use Rattle.image_layout.specs.Arrays.{capacity, place_of, array_word}
-use Rattle.image_layout.specs.Tables.{table_blocks, columns_of, all_columns, is_text}
+use Rattle.image_layout.specs.Tables.{table_blocks, columns_of, columns_with, all_columns, is_text, since_of}
 use Rattle.image_layout.specs.Objects.{entry_places}
 use Rattle.image_layout.specs.Trees.{leaf_list, leaf_slots, key_below, keys_differ, key_fingerprint, slot_fingerprint, dictionary_length, dictionary_word, text_at}
 use Rattle.image_layout.specs.Owners.{word_of, owner_words, owns_block, dictionary_slots, next_table_slots}
@@ -158,32 +158,37 @@ row_checks words block row =
     row_check words (created_header block) row (is_created words stamped created)
     ++ row_check words (ended_header block) row (is_ended words stamped created ended)
 
--- the arrays that have a word for each row
-abbrev pub row_headers : List ℕ → ℕ → List ℕ
-row_headers words block = created_header block ∷ ended_header block ∷ map codes_header (columns_of words block)
+-- The bound of a table's rows: there are stamps below it, and no column begins above it.
+abbrev pub is_row_bound : List ℕ → ℕ → ℕ → Bool
+is_row_bound words block bound =
+    nat_le bound (capacity words (created_header block)) && nat_le bound (capacity words (ended_header block))
+    && list_all (λ column. nat_le (since_of words column) bound) (columns_of words block)
 
 unfoldable pub stamp_checks : List ℕ → ℕ → List Check
 stamp_checks words block =
-    check (high_at block) (list_all (λ header. nat_le (slice_index words (high_at block)) (capacity words header)) (row_headers words block))
+    check (high_at block) (is_row_bound words block (slice_index words (high_at block)))
     ∷ flat_map (row_checks words block) (below (max (capacity words (created_header block)) (capacity words (ended_header block))))
 
 -- 27: stamps
 unfoldable pub stamp_rule : Rule
 stamp_rule words = flat_map (stamp_checks words) (table_blocks words)
 
--- the code of a row in a column is below the length
+-- The code of a row in a column is below the length. Where its word isn't published the check fails, at the word that counts
+-- the chunks.
 abbrev pub row_code_check : List ℕ → ℕ → ℕ → Check
 row_code_check words row column =
-    check (place_of words (codes_header column) row) (nat_lt (array_word words (codes_header column) row) (dictionary_length words column))
+    (if nat_lt row (capacity words (codes_header column))
+    then check (place_of words (codes_header column) row) (nat_lt (array_word words (codes_header column) row) (dictionary_length words column))
+    else check (codes_header column) false)
 
 -- the rows that a commit created
 abbrev pub committed_rows : List ℕ → ℕ → List ℕ
 committed_rows words block = filter (λ row. is_commit words (array_word words (created_header block) row)) (below (min (slice_index words (high_at block)) (capacity words (created_header block))))
 
--- 28: a row that a commit created has a value in each column
+-- 28: a row that a commit created has a value in each column that has a word for it
 unfoldable pub row_code_rule : Rule
 row_code_rule words =
-    flat_map (λ block. flat_map (λ row. map (row_code_check words row) (columns_of words block)) (committed_rows words block)) (table_blocks words)
+    flat_map (λ block. flat_map (λ row. map (row_code_check words row) (columns_with words block row)) (committed_rows words block)) (table_blocks words)
 
 -- 29: the words of a page that was given back are 0
 unfoldable pub given_back_rule : Rule
@@ -212,6 +217,10 @@ table_name_checks words before (block ∷ blocks) =
 unfoldable pub distinct_name_rule : Rule
 distinct_name_rule words = table_name_checks words [] (table_blocks words)
 
+-- 31: the version of the format is 2
+unfoldable pub latest_version_rule : Rule
+latest_version_rule words = check version_at (slice_index words version_at == 2) ∷ []
+
 abbrev pub rest_rules : List Numbered
 rest_rules =
     numbered 16 idle_rule
@@ -229,6 +238,7 @@ rest_rules =
     ∷ numbered 28 row_code_rule
     ∷ numbered 29 given_back_rule
     ∷ numbered 30 distinct_name_rule
+    ∷ numbered 31 latest_version_rule
     ∷ []
 
 -- the first of all rules that an image breaks, and the first place at which it does
@@ -253,3 +263,4 @@ pub record IsSound (words : List ℕ) : Type 0 where
   pub row_codes : Keeps words row_code_rule
   pub given_back : Keeps words given_back_rule
   pub names : Keeps words distinct_name_rule
+  pub latest : Keeps words latest_version_rule

@@ -48,10 +48,15 @@ pub const ENTRY_SEGMENT_WORDS: u32 = 256;
 /// Segments of entries that an object has at most.
 pub const MAX_ENTRY_SEGMENTS: u32 = 32;
 
-/// Words of a table's block before its columns, and words of a column.
+/// Words of a table's block before the columns in it, and words of a column.
 pub const TABLE_HEAD_WORDS: u32 = 40;
 
 pub const COLUMN_WORDS: u32 = 40;
+
+/// Words of an extension, a block with one more column of a table, and those before the column in it.
+pub const EXTENSION_WORDS: u32 = EXTENSION_HEAD_WORDS + COLUMN_WORDS;
+
+pub const EXTENSION_HEAD_WORDS: u32 = LINE_WORDS;
 
 /// Words of an array's header, of a name.
 pub const HEADER_WORDS: u32 = 16;
@@ -68,7 +73,11 @@ pub const TABLES: u8 = 32;
 pub const MAGIC: u64 = 0x4244_5452_4F46_4F53;
 
 /// The version of the format.
-pub const VERSION: u64 = 1;
+pub const VERSION: u64 = 2;
+
+/// The version before it, which opening brings to this one: a table has no extensions, and doesn't say how many columns
+/// stand in its block.
+pub const FIRST_VERSION: u64 = 1;
 
 /// The descriptor of a free page that was given back: its words are 0. That of any other free page is 0.
 pub const GIVEN_BACK: u64 = 1;

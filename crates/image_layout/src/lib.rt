@@ -38,16 +38,17 @@ pub use formatted::fresh;
 pub use heap_laws::heap_law;
 pub use laws::{fault_law, limits_law};
 pub use layout::{
-    ALLOCATING, BIG_HEAD, CLOSED, COLUMN_WORDS, ENTRY_SEGMENT_WORDS, FIRST_SLOT, FIXED_PAGES,
-    FREEING, GIVEN_BACK, HEADER_WORDS, IDLE, LANE_WORDS, LANES, LAST_BIG_HEAD, LAST_SMALL_PAGE,
-    LINE_WORDS, MAGIC, MAX_COLUMNS, MAX_COMMITS, MAX_ENTRY_SEGMENTS, MAX_SEGMENTS, MAX_WORDS,
-    NAME_WORDS, NO_COMMIT, OBJECT_ENTRIES, OBJECT_WORDS, OBJECTS, OPEN, PAGE_LINES, PAGE_WORDS,
-    RESERVED, SEGMENT_ENTRIES, SEGMENT_PAGES, SEGMENT_WORDS, SESSIONS, SMALL_PAGE,
-    TABLE_HEAD_WORDS, TABLES, VERSION,
+    ALLOCATING, BIG_HEAD, CLOSED, COLUMN_WORDS, ENTRY_SEGMENT_WORDS, EXTENSION_HEAD_WORDS,
+    EXTENSION_WORDS, FIRST_SLOT, FIRST_VERSION, FIXED_PAGES, FREEING, GIVEN_BACK, HEADER_WORDS,
+    IDLE, LANE_WORDS, LANES, LAST_BIG_HEAD, LAST_SMALL_PAGE, LINE_WORDS, MAGIC, MAX_COLUMNS,
+    MAX_COMMITS, MAX_ENTRY_SEGMENTS, MAX_SEGMENTS, MAX_WORDS, NAME_WORDS, NO_COMMIT,
+    OBJECT_ENTRIES, OBJECT_WORDS, OBJECTS, OPEN, PAGE_LINES, PAGE_WORDS, RESERVED, SEGMENT_ENTRIES,
+    SEGMENT_PAGES, SEGMENT_WORDS, SESSIONS, SMALL_PAGE, TABLE_HEAD_WORDS, TABLES, VERSION,
 };
 pub use place::{PPtr, Page, Place};
 pub use records::{
     chunk_pointer, codes_header, column, column_count, column_kind, column_name, created_header,
-    dictionary_header, ended_header, first_leaf, high, new_leaf, segment_entry, split_leaf,
-    table_name, table_words,
+    dictionary_header, ended_header, extension_column, first_extension, first_leaf, high,
+    inner_columns, new_leaf, next_extension, segment_entry, since, split_leaf, table_name,
+    table_words,
 };
