@@ -9,5 +9,6 @@ pub mod Precedes
 pub mod Ranges
 pub mod SlotSizes
 pub mod SoundApart
+pub mod TableParts
 pub mod TableSlots
 pub mod TextOrder

@@ -1,6 +1,6 @@
 -- Where owner words are apart: each of a table, an array or an object names a live block of its size, and no two of them one.
 use Rattle.std.proofs.Common.{◌≡◌, ◌≢◌, inl, ⊎_elim, ℕ, zero, suc, ◌+◌, ◌*◌, ◌/◌, ◌^◌, ◌<◌, ◌≤◌, min, Bool, true, false, not, ◌&&◌, eqb, leb, List, [], ◌∷◌, ◌++◌, map, refl, sym, ap, subst, arith}
-use Rattle.std.specs.Prelude.{All, Contains}
+use Rattle.std.specs.Prelude.{All, Contains, filter}
 use Rattle.std.proofs.Math.Pow.{pow_mono}
 use Rattle.std.specs.List.{flat_map, list_any}
 use Rattle.std.proofs.lemmas.Bool.{both_ways, not-true, cases_Bool, cases_lt, eqb-true, eq-eqb, ne_eqb, lt-leb, cond-false, and_parts, and_left, not_from_false}
@@ -11,9 +11,9 @@ use Rattle.image_layout.specs.Arrays.{chunk_count, chunk_words}
 use Rattle.image_layout.specs.Blocks.{Block, slot_words, class_for, block_words, live_blocks, is_live, is_reserved, descriptor_of}
 use Rattle.image_layout.specs.HeapRules.{reserved_rule, descriptor_rule}
 use Rattle.image_layout.specs.Checks.{Keeps}
-use Rattle.image_layout.specs.Tables.{table_count, table_block, columns_of, all_columns, column_headers, array_headers}
+use Rattle.image_layout.specs.Tables.{table_count, table_block, columns_of, all_columns, column_headers, array_headers, extension_count, is_first_version}
 use Rattle.image_layout.specs.Objects.{ready_count}
-use Rattle.image_layout.specs.Owners.{Owner, word_of, named_block, names_one, chunk_owner, array_owners, link_places, leaf_owner, text_owners, column_owners, table_owner, block_owners, table_owners, segment_owner, object_owners, owner_words, owns_block, new_leaf_owners, unfinished_slots, firm_owners, owner_places, is_replaced_in, NameApart, OwnersAreApart}
+use Rattle.image_layout.specs.Owners.{Owner, word_of, named_block, names_one, chunk_owner, array_owners, link_places, leaf_owner, text_owners, column_owners, table_owner, extension_owner, extension_owners, block_owners, table_owners, segment_owner, object_owners, owner_words, owns_block, new_leaf_owners, unfinished_slots, firm_owners, owner_places, is_replaced_in, NameApart, OwnersAreApart}
 use Rattle.image_layout.proofs.Members.{below-Contains, Contains-here, Contains-there, Contains-cons, Contains-nil, Contains-flat_map, flat_map-Contains, map-Contains, filter-Contains}
 use Rattle.image_layout.proofs.Precedes.{Precedes, precedes_left, precedes_right, precedes_across, precedes_map, precedes_filter, precedes_parts, precedes_within, precedes_below, pair_of}
 use Rattle.image_layout.proofs.Heap.{IsSmallOf, IsBigOf, page_of_block, reserved_descriptor, small_class, big_pages}
@@ -179,17 +179,35 @@ module _ (words : List ℕ) where
       (subst A (sym (⊎_elim (λ (second : dictionary_header column ≡ header). second) (λ none. absurd (Contains-nil header none)) (Contains-cons (dictionary_header column) header [] rest))) of)))
       (Contains-cons (codes_header column) header (dictionary_header column ∷ []) is)
 
+  -- the pointer to an extension is among the words of its table
+  pub extension_in : (block extension : ℕ) → is_first_version words ≡ false → extension ≤ extension_count words block → names_one words (extension_owner words block extension) ≡ true → Contains (block_owners words block) (extension_owner words block extension)
+  unfolding extension_owners
+  extension_in block extension second le is =
+      let owner = extension_owner words block extension in
+      let count = extension_count words block + 1 in
+      let made : List Owner = filter (names_one words) (map (extension_owner words block) (below count)) in
+      let among : Contains made owner = filter-Contains (names_one words) (map (extension_owner words block) (below count)) owner
+      (map-Contains (extension_owner words block) (below count) extension (below-Contains count extension (omega (arith, le)))) is in
+      let created = array_owners words (created_header block) in
+      let ended = array_owners words (ended_header block) in
+      let columns = flat_map (column_owners words) (columns_of words block) in
+      Contains-append_left (extension_owners words block ++ created ++ ended) columns owner
+      (Contains-append_left (extension_owners words block ++ created) ended owner
+      (Contains-append_left (extension_owners words block) created owner
+      (subst (λ (os : List Owner). Contains os owner) (sym (cond-false (is_first_version words) [] made second)) among)))
+
   pub header_in : (block header : ℕ) (owner : Owner) → Contains (array_headers words block) header → Contains (array_owners words header) owner → Contains (block_owners words block) owner
   header_in block header owner is of =
       let created = array_owners words (created_header block) in
       let ended = array_owners words (ended_header block) in
       let columns = flat_map (column_owners words) (columns_of words block) in
+      let extensions = extension_owners words block in
       let A : ℕ → Type 0 = λ at. Contains (array_owners words at) owner in
       ⊎_elim
-      (λ first. Contains-append_left (created ++ ended) columns owner (Contains-append_left created ended owner (subst A (sym first) of)))
+      (λ first. Contains-append_left (extensions ++ created ++ ended) columns owner (Contains-append_left (extensions ++ created) ended owner (Contains-append_right extensions created owner (subst A (sym first) of))))
       (λ rest. ⊎_elim
-      (λ second. Contains-append_left (created ++ ended) columns owner (Contains-append_right created ended owner (subst A (sym second) of)))
-      (λ later. Contains-append_right (created ++ ended) columns owner
+      (λ second. Contains-append_left (extensions ++ created ++ ended) columns owner (Contains-append_right (extensions ++ created) ended owner (subst A (sym second) of)))
+      (λ later. Contains-append_right (extensions ++ created ++ ended) columns owner
       (let (column, there, here) = Contains-flat_map column_headers (columns_of words block) header later in
       flat_map-Contains (column_owners words) (columns_of words block) column owner there (column_in column header owner here of)))
       (Contains-cons (ended_header block) header (flat_map column_headers (columns_of words block)) rest))

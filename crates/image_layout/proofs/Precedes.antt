@@ -1,5 +1,5 @@
 -- An element of a list that stands before another one.
-use Rattle.std.proofs.Common.{◌≡◌, ◌⊎◌, inl, inr, ⊎_elim, ℕ, zero, suc, ◌+◌, ◌<◌, ◌≤◌, Bool, true, List, [], ◌∷◌, ◌++◌, ◌-◌, map, sym, subst, ap, arith}
+use Rattle.std.proofs.Common.{◌≡◌, ◌⊎◌, inl, inr, ⊎_elim, ℕ, zero, suc, ◌+◌, ◌<◌, ◌≤◌, Bool, true, List, [], ◌∷◌, ◌++◌, ◌-◌, map, sym, ◌∙◌, subst, ap, arith}
 use Rattle.std.specs.Prelude.{AllPairs, Contains, filter}
 use Rattle.std.specs.List.{flat_map, range_with_len}
 use Rattle.std.proofs.lemmas.Bool.{cases_Bool, cases_lt}
@@ -84,3 +84,13 @@ pair_of {X} R (z ∷ xs) x y all is =
     subst P here.0 (subst Q at (all 0 (suc k) y (omega arith) (omega (arith, lt)))))
     (λ later. pair_of R xs x y (λ i j d order lt. all (suc i) (suc j) d (omega (arith, order)) (omega (arith, lt))) later)
     is
+
+-- of two elements that differ one stands before the other
+pub either_first : {X : Type 0} (xs : List X) (x y : X) → Contains xs x → Contains xs y → (x ≡ y → ⊥) → Precedes xs x y ⊎ Precedes xs y x
+either_first [] x y one two apart = absurd (Contains-nil x one)
+either_first (z ∷ xs) x y one two apart =
+    ⊎_elim
+    (λ first. ⊎_elim (λ second. absurd (apart (sym first ∙ second))) (λ there. inl (inl (first, there))) (Contains-cons z y xs two))
+    (λ later. ⊎_elim (λ second. inr (inl (second, later)))
+    (λ there. ⊎_elim (λ before. inl (inr before)) (λ after. inr (inr after)) (either_first xs x y later there apart)) (Contains-cons z y xs two))
+    (Contains-cons z x xs one)
