@@ -257,7 +257,7 @@ fresh_free page free =
     let fixed = ltb-false page 4 parts.1 in
     cond-false (is_reserved_descriptor (descriptor_at page)) 8 _ (or_from (eqb (descriptor_at page % 32768) 0) (ltb (descriptor_at page) 4) (ne_eqb (descriptor_at page % 32768) 0 (λ e. omega (arith, e, header))) (le-ltb (descriptor_at page) 4 (omega (arith, header, fixed))))
     ∙ cond-false (eqb (descriptor_at page) 512) _ _ (ne_eqb (descriptor_at page) 512 (λ e. omega (arith, e)))
-    ∙ cond-false (eqb (descriptor_at page) 513) 1 0 (ne_eqb (descriptor_at page) 513 (λ e. omega (arith, e)))
+    ∙ cond-false (eqb (descriptor_at page) 513) _ _ (ne_eqb (descriptor_at page) 513 (λ e. omega (arith, e)))
 
 pub fresh_rules : (segments : ℕ) → KeepsHeapRules (fresh_words segments)
 fresh_rules segments = rules_from (fresh_words segments) (λ page lt. ⊎_elim

@@ -1,18 +1,18 @@
 -- What every image keeps that a power cut can leave, said word by word, with no opening in it.
-use Rattle.std.specs.Prelude.{◌≡◌, ◌⊎◌, ℕ, ◌+◌, ◌-◌, ◌<◌, ◌≤◌, max, Bool, ◌&&◌, ◌==◌, IsTrue, List, ◌++◌, map, filter, fold, slice_index, All, Contains}
+use Rattle.std.specs.Prelude.{◌≡◌, ◌⊎◌, ℕ, ◌+◌, ◌-◌, ◌<◌, ◌≤◌, max, Bool, true, ◌&&◌, ◌==◌, IsTrue, List, ◌++◌, map, filter, fold, slice_index, All, Contains}
 use Rattle.std.specs.List.{flat_map, range_with_len}
 use Rattle.image_layout.specs.Pointer.{pointer_word}
 use Rattle.image_layout.specs.Places.{below}
-use Rattle.image_layout.specs.Records.{codes_header, created_header, dictionary_header, ended_header, high_at}
+use Rattle.image_layout.specs.Records.{codes_header, created_header, dictionary_header, ended_header, first_extension_at, high_at}
 use Rattle.image_layout.specs.Blocks.{live_blocks}
 use Rattle.image_layout.specs.Arrays.{capacity, place_of, array_word}
-use Rattle.image_layout.specs.Tables.{table_count, table_block, columns_of}
+use Rattle.image_layout.specs.Tables.{table_count, table_block, columns_of, columns_with, is_first_version, since_of}
 use Rattle.image_layout.specs.Objects.{is_open, commit_word, entries, entry_word, last_commit}
 use Rattle.image_layout.specs.Trees.{dictionary_length}
 use Rattle.image_layout.specs.Owners.{owner_places, busy_lanes, lane_block, OwnersAreApart}
 use Rattle.image_layout.specs.Checks.{Rule, Keeps}
 use Rattle.image_layout.specs.EntryRules.{text_columns, KeepsEntryRules}
-use Rattle.image_layout.specs.SoundRules.{zero_check, no_commit, row_headers, owner_rule, order_rule, fingerprint_rule, code_rule, text_rule, given_back_rule, distinct_name_rule}
+use Rattle.image_layout.specs.SoundRules.{zero_check, no_commit, owner_rule, order_rule, fingerprint_rule, code_rule, text_rule, given_back_rule, distinct_name_rule}
 use Rattle.shown_state.specs.LogicalState.{created_rows, row_bound, next_row_of}
 use Rattle.shown_state.specs.Logs.{LogsFit}
 
@@ -85,20 +85,28 @@ pub record HasValue (words : List ℕ) (row column : ℕ) : Type 0 where
   pub published : row < capacity words (codes_header column)
   pub known : array_word words (codes_header column) row < dictionary_length words column
 
--- The rows of a table: each row that was given out is used up, or will be; there are words for those; and each stamp is that
--- of a commit, or opening takes it back.
+-- The rows of a table: each row that was given out is used up, or will be; there are words for the stamps of those; no column
+-- begins above the bound; and each stamp is that of a commit, or opening takes it back.
 pub record RowsFit (words : List ℕ) (table : ℕ) : Type 0 where
   pub rows : next_row_of words table ≤ used_up words table
-  pub room : All (λ header. used_up words table ≤ capacity words header) (row_headers words (table_block words table))
+  pub created_room : used_up words table ≤ capacity words (created_header (table_block words table))
+  pub ended_room : used_up words table ≤ capacity words (ended_header (table_block words table))
+  pub begun : All (λ column. since_of words column ≤ slice_index words (high_at (table_block words table))) (columns_of words (table_block words table))
   pub created : (row : ℕ) → row < capacity words (created_header (table_block words table)) → CreatorFits words table row
   pub ended : (row : ℕ) → row < capacity words (ended_header (table_block words table)) → EnderFits words table row
   pub values : (row : ℕ) → row < capacity words (created_header (table_block words table)) → 1 ≤ creator words table row → creator words table row ≤ last_commit words
-      → All (HasValue words row) (columns_of words (table_block words table))
+      → All (HasValue words row) (columns_with words (table_block words table) row)
 
 -- ── all of it ──
 
+-- What version 2 reads and version 1 doesn't is 0 there: the pointer to a table's first extension, and the row at which a
+-- column begins.
+pub record BeginsFirst (words : List ℕ) (table : ℕ) : Type 0 where
+  pub no_extension : slice_index words (first_extension_at (table_block words table)) ≡ 0
+  pub all_rows : All (λ column. since_of words column ≡ 0) (columns_of words (table_block words table))
+
 -- An image fits together: the rules that every image keeps, owner words apart, and the logs; each live block is spoken for;
--- the rules of an image at rest that no power cut breaks; and the rows of each table.
+-- the rules of an image at rest that no power cut breaks; the rows of each table; and in version 1 what version 2 reads beside it.
 pub record Fits (words : List ℕ) : Type 0 where
   pub entry : KeepsEntryRules words
   pub apart : OwnersAreApart words
@@ -113,3 +121,4 @@ pub record Fits (words : List ℕ) : Type 0 where
   pub given_back : Keeps words given_back_rule
   pub names : Keeps words distinct_name_rule
   pub rows : (table : ℕ) → table < table_count words → RowsFit words table
+  pub first : is_first_version words ≡ true → (table : ℕ) → table < table_count words → BeginsFirst words table

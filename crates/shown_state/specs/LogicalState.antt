@@ -1,5 +1,5 @@
 -- The state of the sequential table that the words of an image stand for.
-use Rattle.std.specs.Prelude.{ℕ, ℤ, pos, negsuc, ◌+◌, ◌-◌, ◌^◌, max, Bool, true, false, not, ◌&&◌, ◌==◌, nat_lt, if◌then◌else◌, List, map, filter, fold, slice_index, take_while}
+use Rattle.std.specs.Prelude.{ℕ, ℤ, pos, negsuc, ◌+◌, ◌-◌, ◌^◌, max, Bool, true, false, not, ◌&&◌, ◌==◌, nat_lt, if◌then◌else◌, List, [], map, filter, fold, slice_index, take_while}
 use Rattle.std.specs.List.{flat_map}
 use Rattle.mv_model.specs.declared.shape.Kind.{Kind}
 use Rattle.mv_model.specs.declared.shape.Kind.TheVariants as kind
@@ -10,7 +10,7 @@ use Rattle.mv_model.specs.State.{Table, CreatedRow, WriteSet, State, all_idle}
 use Rattle.image_layout.specs.Places.{below, place_in, packed_byte}
 use Rattle.image_layout.specs.Records.{table_name_at, high_at, created_header, ended_header, column_name_at, codes_header}
 use Rattle.image_layout.specs.Arrays.{capacity, array_word}
-use Rattle.image_layout.specs.Tables.{table_count, table_block, columns_of, is_text}
+use Rattle.image_layout.specs.Tables.{table_count, table_block, columns_of, is_text, since_of}
 use Rattle.image_layout.specs.Objects.{is_open, entries, entry_kind, entry_table, entry_row, last_commit}
 use Rattle.image_layout.specs.Trees.{text_at, dictionary_word, dictionary_words}
 
@@ -38,10 +38,17 @@ key_value words false key = value.Int (integer_of key)
 abbrev pub dictionary : List ℕ → ℕ → List Value
 dictionary words column = map (key_value words (is_text words column)) (dictionary_words words column)
 
--- a row's value in a column: that whose key word stands in the dictionary at the row's code
+-- the zero value of a kind: 0, or the empty text
+abbrev pub zero_value : Bool → Value
+zero_value true = value.Text []
+zero_value false = value.Int (pos 0)
+
+-- A row's value in a column: that whose key word stands in the dictionary at the row's code, and the zero value where the
+-- column has words for later rows only.
 abbrev pub row_value : List ℕ → ℕ → ℕ → Value
 row_value words row column =
-    key_value words (is_text words column) (dictionary_word words column (array_word words (codes_header column) row))
+    (if nat_lt row (since_of words column) then zero_value (is_text words column)
+    else key_value words (is_text words column) (dictionary_word words column (array_word words (codes_header column) row)))
 
 abbrev pub row_values : List ℕ → ℕ → ℕ → List Value
 row_values words block row = map (row_value words row) (columns_of words block)

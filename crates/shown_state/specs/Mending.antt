@@ -3,14 +3,14 @@ use Rattle.std.specs.Prelude.{ℕ, ◌-◌, ◌+◌, ◌^◌, max, Bool, true, f
 use Rattle.std.specs.List.{flat_map}
 use Rattle.std.specs.Option.{option_map_or}
 use Rattle.pm_model.specs.declared.action.Action.{Action}
-use Rattle.image_layout.specs.Fixed.{commit_word_at, descriptor_at, lane_op_at, lane_dest_at, lane_block_at, last_at, state_at}
+use Rattle.image_layout.specs.Fixed.{commit_word_at, descriptor_at, lane_op_at, lane_dest_at, lane_block_at, last_at, state_at, version_at}
 use Rattle.image_layout.specs.Places.{below, page_of, place_in}
 use Rattle.pm_model.specs.Plans.{Part, store, one_store, stores}
 use Rattle.pm_model.specs.Needed.{needed_parts, Mending, after_mending}
-use Rattle.image_layout.specs.Records.{code_at, created_header, ended_header, first_leaf_at, high_at, key_at, new_leaf_at, next_leaf_at, split_leaf_at}
+use Rattle.image_layout.specs.Records.{code_at, created_header, ended_header, first_leaf_at, high_at, inner_columns_at, key_at, new_leaf_at, next_leaf_at, split_leaf_at}
 use Rattle.image_layout.specs.Blocks.{is_block_pointer}
 use Rattle.image_layout.specs.Arrays.{place_of}
-use Rattle.image_layout.specs.Tables.{table_count, table_block, all_columns, is_text}
+use Rattle.image_layout.specs.Tables.{table_count, table_block, all_columns, column_count, is_first_version, is_text}
 use Rattle.image_layout.specs.Objects.{is_open, commit_word, entry_places, entries, entry_kind, entry_table, entry_row, last_commit}
 use Rattle.image_layout.specs.Trees.{is_full_leaf, leaf_slots, key_below, key_fingerprint, sorted_by}
 use Rattle.image_layout.specs.Owners.{next_table_slots, next_text_slots}
@@ -172,10 +172,23 @@ close_mending object words = (if is_open words object && not (commit_word words 
 abbrev pub clear_mending : ℕ → Mending
 clear_mending object words = (stores 0 (entry_places words object) ++ one_store (commit_word_at object) 0) ∷ []
 
+-- ── the version ──
+
+-- a table of version 1 says how many columns stand in its block: all that it has
+abbrev pub count_columns : List ℕ → ℕ → Part
+count_columns words table =
+    let block = table_block words table in
+    one_store (inner_columns_at block) (column_count words block)
+
+-- an image of version 1 gets that word in each table, and is then one of version 2
+abbrev pub version_mending : Mending
+version_mending words =
+    (if is_first_version words then map (count_columns words) (below (table_count words)) ++ one_store version_at 2 ∷ [] else [])
+
 -- ── all of it ──
 
 -- All that opening mends, in order: each lane, split log, the table slot at the table count, the dictionary slot at the
--- length of each column, the last number, and then each object in three rounds. There are at most 512 columns.
+-- length of each column, the last number, then each object in three rounds, and the version. There are at most 512 columns.
 abbrev pub mendings : List Mending
 mendings =
     map lane_mending (below 16)
@@ -186,6 +199,7 @@ mendings =
     ++ map undo_mending (below 16)
     ++ map close_mending (below 16)
     ++ map clear_mending (below 16)
+    ++ version_mending ∷ []
 
 -- the words that opening has reached, and whether it goes no further
 pub record Reached : Type 0 where

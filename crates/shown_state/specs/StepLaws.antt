@@ -1,14 +1,14 @@
 -- What each step of opening keeps of an image that fits together, and what follows for opening.
 use Rattle.std.specs.Prelude.{◌≡◌, ℕ, ◌+◌, ◌<◌, ◌≤◌, false, List, length, take, slice_index, All}
 use Rattle.pm_model.specs.Device.{IsCrashImage}
-use Rattle.image_layout.specs.Fixed.{lane_op_at, last_at, state_at}
+use Rattle.image_layout.specs.Fixed.{lane_op_at, last_at, state_at, version_at}
 use Rattle.pm_model.specs.Plans.{IsPlan, EachCut, finished, run, at_rest}
 use Rattle.image_layout.specs.Records.{new_leaf_at, split_leaf_at}
 use Rattle.image_layout.specs.Tables.{all_columns}
 use Rattle.image_layout.specs.Objects.{commit_word, entry_places, last_commit}
 use Rattle.image_layout.specs.Owners.{next_table_slots, next_text_slots}
 use Rattle.image_layout.specs.SoundRules.{IsSound}
-use Rattle.shown_state.specs.Mending.{lane_mending, split_mending, slot_mending, text_mending, last_mending, undo_mending, close_mending, clear_mending, reached_by_opening, recovered}
+use Rattle.shown_state.specs.Mending.{lane_mending, split_mending, slot_mending, text_mending, last_mending, undo_mending, close_mending, clear_mending, version_mending, reached_by_opening, recovered}
 use Rattle.shown_state.specs.Recoverable.{IsRecoverable}
 use Rattle.shown_state.specs.Fits.{is_undecided, Fits}
 use Rattle.shown_state.specs.OpeningParts.{opening_plan, IsImage, opening_parts, FitsStill, StepKeeps}
@@ -53,7 +53,7 @@ abbrev pub HaveNoNew : ℕ → List ℕ → Type 0
 HaveNoNew columns words = AreJoined 512 words × NoTableIsNew words × NoTextIsNew columns words
 
 -- All this, and the last number is that of the last commit, and of so many objects no transaction is undecided; none is
--- undecided and of so many objects none is open; none is open, and so many objects are clear.
+-- undecided and of so many objects none is open; none is open, and so many objects are clear; all are, and the version is 2.
 abbrev pub AreUndone : ℕ → List ℕ → Type 0
 AreUndone objects words = HaveNoNew 512 words × (slice_index words last_at ≡ last_commit words) × NoneIsUndecided objects words
 
@@ -62,6 +62,9 @@ AreClosed objects words = AreUndone 16 words × NoneIsOpen objects words
 
 abbrev pub AreClear : ℕ → List ℕ → Type 0
 AreClear objects words = AreClosed 16 words × NoneHasEntries objects words
+
+abbrev pub AreMended : List ℕ → Type 0
+AreMended words = AreClear 16 words × (slice_index words version_at ≡ 2)
 
 -- ── the steps, each by itself ──
 
@@ -89,7 +92,10 @@ ClosesKeep = (words : List ℕ) (object : ℕ) → IsImage words → object < 16
 abbrev pub ClearsKeep : Type 0
 ClearsKeep = (words : List ℕ) (object : ℕ) → IsImage words → object < 16 → Fits words → AreClear object words → StepKeeps (AreClear (object + 1)) (clear_mending object) words
 
--- the eight steps
+abbrev pub VersionKeeps : Type 0
+VersionKeeps = (words : List ℕ) → IsImage words → Fits words → AreClear 16 words → StepKeeps AreMended version_mending words
+
+-- the nine steps
 pub record StepsKeep : Type 0 where
   pub lanes : LanesKeep
   pub splits : SplitsKeep
@@ -99,6 +105,7 @@ pub record StepsKeep : Type 0 where
   pub undos : UndosKeep
   pub closes : ClosesKeep
   pub clears : ClearsKeep
+  pub version : VersionKeeps
 
 -- What the steps keep, opening keeps: its parts leave the recovered words, it is never stopped, each power cut leaves what fits
 -- and shows the same, and at its end all is mended.
@@ -107,7 +114,7 @@ pub record OpensStill (words : List ℕ) : Type 0 where
   pub reaches : finished (opening_parts words) words ≡ recovered words
   pub goes_on : (reached_by_opening words).stopped ≡ false
   pub cuts : EachCut (FitsStill words) (opening_parts words) words
-  pub end : AreClear 16 (recovered words)
+  pub end : AreMended (recovered words)
 
 abbrev pub StepsMakeOpening : Type 0
 StepsMakeOpening = StepsKeep → (words : List ℕ) → IsImage words → Fits words → OpensStill words
@@ -123,7 +130,7 @@ StepsKeepCuts = StepsKeep → (words : List ℕ) (k : ℕ) (image : List ℕ) �
 
 -- what fits and has nothing left to mend is sound
 abbrev pub EndIsSound : Type 0
-EndIsSound = (words : List ℕ) → Fits words → AreClear 16 words → IsSound words
+EndIsSound = (words : List ℕ) → Fits words → AreMended words → IsSound words
 
 -- so what fits is recoverable, where the steps keep it
 abbrev pub StepsRecover : Type 0
