@@ -6,9 +6,9 @@ use Rattle.std.specs.List.{flat_map}
 use Rattle.std.proofs.lemmas.Bool.{le-leb, lt-leb, leb-true}
 use Rattle.std.proofs.lemmas.List.Folds.{flat_map-map}
 use Rattle.image_layout.specs.Places.{below}
-use Rattle.image_layout.specs.Records.{column_at, columns_at, created_header, ended_header, codes_header, dictionary_header}
+use Rattle.image_layout.specs.Records.{created_header, ended_header, codes_header, dictionary_header}
 use Rattle.image_layout.specs.Arrays.{array_rule, chunk_count, chunk_pointer_at, is_chunk_pointer}
-use Rattle.image_layout.specs.Tables.{table_count, table_block, array_headers, column_headers, columns_of}
+use Rattle.image_layout.specs.Tables.{table_count, table_block, array_headers, column_headers, columns_of, column_count, column_record}
 use Rattle.image_layout.specs.Checks.{Check, check, Keeps, first_failing}
 use Rattle.image_layout.specs.EntryRules.{arrays_rule}
 use Rattle.image_layout.proofs.Faults.{first_failing-none, passes, fails}
@@ -69,16 +69,16 @@ module _ (words : List ℕ) where
 
   module _ (block : ℕ) where
     abbrev columns : ℕ
-    columns = get_or words (columns_at block) 0
+    columns = column_count words block
 
     abbrev numbered_column : ℕ → List Check
-    numbered_column number = column_checks (column_at block number)
+    numbered_column number = column_checks (column_record words block number)
 
     abbrev of_columns : List Check
     of_columns = flat_map array_checks (flat_map column_headers (columns_of words block))
 
     of_columns-is : of_columns ≡ flat_map numbered_column (below columns)
-    of_columns-is = flat_map-flat_map array_checks column_headers (columns_of words block) ∙ flat_map-map column_checks (column_at block) (below columns)
+    of_columns-is = flat_map-flat_map array_checks column_headers (columns_of words block) ∙ flat_map-map column_checks (column_record words block) (below columns)
 
     pub created_found : (created : Option ℕ) → created ≡ first_failing (array_rule (created_header block) words) → is_some created ≡ true
         → created ≡ first_failing (flat_map array_checks (array_headers words block))
@@ -97,18 +97,18 @@ module _ (words : List ℕ) where
         (then_rest (array_checks (ended_header block)) of_columns ended found second none_either (here ∙ ap first_failing (sym of_columns-is)))
 
     abbrev pub ColumnsBelow : ℕ → Type 0
-    ColumnsBelow k = (x : ℕ) → x < k → first_failing (column_checks (column_at block x)) ≡ None
+    ColumnsBelow k = (x : ℕ) → x < k → first_failing (column_checks (column_record words block x)) ≡ None
 
     pub column_found : (created ended found : Option ℕ) (k : ℕ) → created ≡ first_failing (array_rule (created_header block) words) → is_some created ≡ false
         → ended ≡ first_failing (array_rule (ended_header block) words) → is_some ended ≡ false → k < get_or words block 0 → ColumnsBelow k
-        → found ≡ first_failing (column_checks (column_at block k)) → is_some found ≡ true → found ≡ first_failing (flat_map array_checks (array_headers words block))
+        → found ≡ first_failing (column_checks (column_record words block k)) → is_some found ≡ true → found ≡ first_failing (flat_map array_checks (array_headers words block))
     column_found created ended found k first none second none_either lt each here some =
         behind created ended found first none second none_either (flat_found numbered_column columns k found lt each here some)
 
-    pub column_none : (k column : ℕ) (found : Option ℕ) → column ≡ column_at block k → found ≡ first_failing (column_checks column) → is_some found ≡ false → first_failing (column_checks (column_at block k)) ≡ None
+    pub column_none : (k column : ℕ) (found : Option ℕ) → column ≡ column_record words block k → found ≡ first_failing (column_checks column) → is_some found ≡ false → first_failing (column_checks (column_record words block k)) ≡ None
     column_none k column found at here none = ap (λ (c : ℕ). first_failing (column_checks c)) (sym at) ∙ found_none found (first_failing (column_checks column)) here none
 
-    pub column_here : (k column : ℕ) (found : Option ℕ) → column ≡ column_at block k → found ≡ first_failing (column_checks column) → found ≡ first_failing (column_checks (column_at block k))
+    pub column_here : (k column : ℕ) (found : Option ℕ) → column ≡ column_record words block k → found ≡ first_failing (column_checks column) → found ≡ first_failing (column_checks (column_record words block k))
     column_here k column found at here = here ∙ ap (λ (c : ℕ). first_failing (column_checks c)) at
 
     pub columns_none : (created ended : Option ℕ) → created ≡ first_failing (array_rule (created_header block) words) → is_some created ≡ false

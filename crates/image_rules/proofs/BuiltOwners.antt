@@ -9,7 +9,7 @@ use Rattle.image_layout.specs.Blocks.{live_blocks}
 use Rattle.image_layout.specs.Arrays.{capacity, place_of}
 use Rattle.image_layout.specs.Tables.{table_count, table_block, table_blocks, columns_of, is_text}
 use Rattle.image_layout.specs.Trees.{leaves_from, stored_leaves, leaf_list, leaf_pairs, put_behind, is_about_to_link, used_pairs, Pair}
-use Rattle.image_layout.specs.Owners.{Owner, word_of, array_owners, column_owners, table_owner, table_owners, leaf_owner, text_owner, text_owners, link_places, dictionary_slots, object_owners, owner_words, owns_block}
+use Rattle.image_layout.specs.Owners.{Owner, word_of, array_owners, column_owners, extension_owners, table_owner, table_owners, leaf_owner, text_owner, text_owners, link_places, dictionary_slots, object_owners, owner_words, owns_block}
 use Rattle.image_layout.specs.Checks.{check}
 use Rattle.image_layout.specs.SoundRules.{owner_rule, single_owner_rule, owned_rule, distinct_checks}
 use Rattle.image_layout.proofs.Members.{Contains-here, Contains-there, map-Contains, flat_map-Contains}
@@ -71,7 +71,7 @@ module _ (words : List ℕ) (column : ℕ) (none : get_or words (first_leaf_at c
 
 module _ (words : List ℕ) (empty : HasEmptyTrees words) where
   abbrev arrays_of : ℕ → List Owner
-  arrays_of block = array_owners words (created_header block) ++ array_owners words (ended_header block)
+  arrays_of block = extension_owners words block ++ array_owners words (created_header block) ++ array_owners words (ended_header block)
 
   table_same : (table : ℕ) → Contains (below (table_count words)) table → built_table_owners words table ≡ table_owners words table
   table_same table is =

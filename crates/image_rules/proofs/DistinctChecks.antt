@@ -4,8 +4,8 @@ use Rattle.std.specs.Prelude.{Option, Some}
 use Rattle.std.specs.Option.{is_some}
 use Rattle.std.specs.List.{range_with_len, list_any}
 use Rattle.std.proofs.lemmas.Bool.{cases_eq, or_left, or_right, or_from, not_from_true, not_from_false}
-use Rattle.image_layout.specs.Records.{column_at, column_name_at, table_name_at}
-use Rattle.image_layout.specs.Tables.{table_count, table_block, columns_of}
+use Rattle.image_layout.specs.Records.{column_name_at, table_name_at}
+use Rattle.image_layout.specs.Tables.{table_count, table_block, columns_of, column_record}
 use Rattle.image_layout.specs.Checks.{Check, check, first_failing}
 use Rattle.image_layout.specs.SoundRules.{same_name, name_place_checks, table_name_checks, distinct_name_rule}
 use Rattle.image_layout.proofs.Faults.{passes, fails}
@@ -32,29 +32,29 @@ module _ (words : List ℕ) where
 
   module _ (block : ℕ) where
     abbrev pub column_name_of : ℕ → ℕ
-    column_name_of number = column_name_at (column_at block number)
+    column_name_of number = column_name_at (column_record words block number)
 
     -- the checks from a column on
     abbrev pub columns_from : ℕ → ℕ → List Check
-    columns_from number left = name_place_checks words (before_of (λ k. column_name_at (column_at block k)) number) (map column_name_at (map (column_at block) (range_with_len number left)))
+    columns_from number left = name_place_checks words (before_of (λ k. column_name_at (column_record words block k)) number) (map column_name_at (map (column_record words block) (range_with_len number left)))
 
     columns_step : (number left rest : ℕ) → left ≡ rest + 1
         → columns_from number left ≡ check (column_name_of number) (is_new (column_name_of number) (before_of column_name_of number)) ∷ columns_from (number + 1) rest
     columns_step number left rest size =
         ap (λ (n : ℕ). columns_from number n) (size ∙ add-one rest)
-        ∙ ap (λ (before : List ℕ). check (column_name_of number) (is_new (column_name_of number) (before_of column_name_of number)) ∷ name_place_checks words before (map column_name_at (map (column_at block) (range_with_len (number + 1) rest))))
+        ∙ ap (λ (before : List ℕ). check (column_name_of number) (is_new (column_name_of number) (before_of column_name_of number)) ∷ name_place_checks words before (map column_name_at (map (column_record words block) (range_with_len (number + 1) rest))))
         (ap (before_of column_name_of) (sym (add-one number)))
 
-    pub column_repeats : (number left name : ℕ) (hit : Bool) → 0 < left → name ≡ column_name_at (column_at block number)
-        → hit ≡ list_any (same_name words name) (before_of (λ k. column_name_at (column_at block k)) number) → hit ≡ true → Some name ≡ first_failing (columns_from number left)
+    pub column_repeats : (number left name : ℕ) (hit : Bool) → 0 < left → name ≡ column_name_at (column_record words block number)
+        → hit ≡ list_any (same_name words name) (before_of (λ k. column_name_at (column_record words block k)) number) → hit ≡ true → Some name ≡ first_failing (columns_from number left)
     column_repeats number left name hit some at is found =
         ap (λ (p : ℕ). Some p) at
         ∙ sym (ap first_failing (columns_step number left (left - 1) (omega (arith, some)))
         ∙ fails (check (column_name_of number) (is_new (column_name_of number) (before_of column_name_of number))) (columns_from (number + 1) (left - 1))
         (not_from_true _ (ap (λ (n : ℕ). list_any (same_name words n) (before_of column_name_of number)) (sym at) ∙ sym is ∙ found)))
 
-    pub column_differs : (number next left rest name : ℕ) (hit : Bool) → next ≡ number + 1 → left ≡ rest + 1 → name ≡ column_name_at (column_at block number)
-        → hit ≡ list_any (same_name words name) (before_of (λ k. column_name_at (column_at block k)) number) → hit ≡ false → first_failing (columns_from number left) ≡ first_failing (columns_from next rest)
+    pub column_differs : (number next left rest name : ℕ) (hit : Bool) → next ≡ number + 1 → left ≡ rest + 1 → name ≡ column_name_at (column_record words block number)
+        → hit ≡ list_any (same_name words name) (before_of (λ k. column_name_at (column_record words block k)) number) → hit ≡ false → first_failing (columns_from number left) ≡ first_failing (columns_from next rest)
     column_differs number next left rest name hit step size at is none =
         ap first_failing (columns_step number left rest size)
         ∙ passes (check (column_name_of number) (is_new (column_name_of number) (before_of column_name_of number))) (columns_from (number + 1) rest)

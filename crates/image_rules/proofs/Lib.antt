@@ -1,6 +1,8 @@
 pub mod ArrayChecks
 pub mod BlockSizes
 pub mod BuiltOwners
+pub mod Chains
+pub mod Columns
 pub mod DistinctChecks
 pub mod EntryChecks
 pub mod Faults

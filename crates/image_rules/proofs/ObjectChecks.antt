@@ -1,96 +1,19 @@
 -- The checks of transaction objects.
-use Rattle.std.proofs.Common.{◌≡◌, ℕ, ◌+◌, ◌-◌, ◌^◌, ◌<◌, ◌≤◌, Bool, true, false, not, ◌&&◌, eqb, leb, min, List, [], ◌∷◌, ◌++◌, map, take, set, length, get_or, sym, ◌∙◌, ap, add-one, arith}
+use Rattle.std.proofs.Common.{◌≡◌, ℕ, ◌+◌, ◌-◌, ◌^◌, ◌<◌, ◌≤◌, true, false, leb, min, List, ◌∷◌, get_or, sym, ◌∙◌, ap, add-one}
 use Rattle.std.specs.Prelude.{Option, None, Some}
 use Rattle.std.specs.Option.{is_some}
-use Rattle.std.specs.Bool.{then_some}
-use Rattle.std.specs.List.{list_any}
-use Rattle.std.proofs.lemmas.Bool.{and_from, and_right, not_from_true, not_from_false, le-leb, lt-leb, true_from_ne_false, false≢true}
-use Rattle.std.proofs.lemmas.List.{take_more_set}
-use Rattle.std.proofs.lemmas.List.FromFn.{map-range_with_len_more}
+use Rattle.std.proofs.lemmas.Bool.{le-leb, lt-leb}
 use Rattle.image_layout.specs.Fixed.{state_at, commit_word_at, ready_at, last_at}
-use Rattle.image_layout.specs.Places.{below, place_in, is_pointer_to, is_null_or_pointer_to}
 use Rattle.image_layout.specs.Objects.{segment_pointer_at, segment_of, ready_count}
 use Rattle.image_layout.specs.Checks.{Check, check, first_failing}
-use Rattle.image_layout.specs.EntryRules.{is_segment_pointer, is_among, object_rule, objects_rule}
-use Rattle.image_layout.proofs.Faults.{passes, fails, pass-all, fail-first}
+use Rattle.image_layout.specs.EntryRules.{object_rule, objects_rule}
+use Rattle.image_layout.proofs.Faults.{passes, fails}
 use Rattle.image_rules.specs.Parts.{segment_checks}
-use Rattle.image_rules.proofs.Firsts.{lone, map_none, map_some, flat_none, flat_found}
-
--- a value was found exactly where the test doesn't fail
-pub found_true : (b : Bool) → ((true ≡ false → b ≡ false) × (b ≡ false → true ≡ false)) → b ≡ true
-found_true b both = true_from_ne_false b (λ e. false≢true (sym (both.1 e)))
+use Rattle.image_rules.proofs.Firsts.{flat_none, flat_found}
 
 module _ (words : List ℕ) (object : ℕ) where
-  abbrev pub SegmentsBelow : ℕ → Type 0
-  SegmentsBelow k = (x : ℕ) → x < k → is_segment_pointer words object x ≡ true
-
-  abbrev segment_check : ℕ → Check
-  segment_check x = check (segment_pointer_at words object x) (is_segment_pointer words object x)
-
-  abbrev after : ℕ → List Check
-  after ready = check (segment_pointer_at words object ready) (is_null_or_pointer_to words 256 (get_or words (segment_pointer_at words object ready) 0)) ∷ []
-
   pub next_pointer : (k : ℕ) → segment_pointer_at words object (k + 1) ≡ segment_of words object k
   next_pointer k = ap (segment_pointer_at words object) (add-one k)
-
-  -- the word at a pointer is no pointer of a segment
-  pub no_pointer : (k pointer : ℕ) → pointer ≡ segment_pointer_at words object k → (is_pointer_to words 256 (get_or words pointer 0) ≡ false) → is_segment_pointer words object k ≡ false
-  no_pointer k pointer at none =
-      ap (λ b. b && not (is_among (map (segment_of words object) (below k)) (segment_of words object k)))
-      (ap (λ (p : ℕ). is_pointer_to words 256 (get_or words p 0)) (sym at) ∙ none)
-
-  -- whether the segments so far have the place
-  abbrev among : List ℕ → ℕ → Bool
-  among reached place = list_any (λ y. eqb y place) reached
-
-  pub among-is : (k pointer place : ℕ) (reached : List ℕ) → pointer ≡ segment_pointer_at words object k → place ≡ place_in (get_or words pointer 0)
-      → reached ≡ map (segment_of words object) (below k)
-      → among reached place ≡ is_among (map (segment_of words object) (below k)) (segment_of words object k)
-  among-is k pointer place reached at is before =
-      ap (λ (r : List ℕ). among r place) before
-      ∙ ap (among (map (segment_of words object) (below k))) (is ∙ ap (λ (p : ℕ). place_in (get_or words p 0)) at)
-
-  pub reached_before : (k pointer place : ℕ) (reached : List ℕ) → pointer ≡ segment_pointer_at words object k → place ≡ place_in (get_or words pointer 0)
-      → reached ≡ map (segment_of words object) (below k) → among reached place ≡ true → is_segment_pointer words object k ≡ false
-  reached_before k pointer place reached at is before again =
-      and_right _ _ (not_from_true _ (sym (among-is k pointer place reached at is before) ∙ again))
-
-  pub segment_holds : (k pointer place : ℕ) (reached : List ℕ) → pointer ≡ segment_pointer_at words object k → place ≡ place_in (get_or words pointer 0)
-      → reached ≡ map (segment_of words object) (below k) → is_pointer_to words 256 (get_or words pointer 0) ≡ true → among reached place ≡ false → is_segment_pointer words object k ≡ true
-  segment_holds k pointer place reached at is before pointed new =
-      and_from _ _ (ap (λ (p : ℕ). is_pointer_to words 256 (get_or words p 0)) (sym at) ∙ pointed)
-      (not_from_false _ (sym (among-is k pointer place reached at is before) ∙ new))
-
-  pub next_is : (k next pointer place : ℕ) → next ≡ k + 1 → pointer ≡ segment_pointer_at words object k → place ≡ place_in (get_or words pointer 0) → place ≡ segment_pointer_at words object next
-  next_is k next pointer place step at is = is ∙ ap (λ (p : ℕ). place_in (get_or words p 0)) at ∙ sym (next_pointer k) ∙ ap (segment_pointer_at words object) (sym step)
-
-  pub reached_more : (k place : ℕ) (reached : List ℕ) → k < length reached → place ≡ segment_pointer_at words object (k + 1) → take k reached ≡ map (segment_of words object) (below k)
-      → take (k + 1) (set reached k place) ≡ map (segment_of words object) (below (k + 1))
-  reached_more k place reached lt is before =
-      take_more_set reached k place lt
-      ∙ ap (λ (r : List ℕ). r ++ place ∷ []) before
-      ∙ ap (λ (p : ℕ). map (segment_of words object) (below k) ++ p ∷ []) (is ∙ next_pointer k)
-      ∙ sym (map-range_with_len_more (segment_of words object) 0 k k (omega arith))
-
-  pub segment_fails : (ready k pointer : ℕ) → k < ready → SegmentsBelow k → pointer ≡ segment_pointer_at words object k → is_segment_pointer words object k ≡ false
-      → Some pointer ≡ first_failing (segment_checks words object ready)
-  segment_fails ready k pointer lt each at miss =
-      ap (λ (p : ℕ). Some p) at
-      ∙ sym (fail-first (map segment_check (below ready)) (after ready) (segment_pointer_at words object k) (map_some segment_check ready k lt each miss))
-
-  abbrev segments : ℕ → List Check
-  segments ready = map segment_check (below ready)
-
-  pub all_pass : (ready : ℕ) → SegmentsBelow ready → first_failing (segment_checks words object ready) ≡ first_failing (after ready)
-  all_pass ready each = pass-all (segments ready) (after ready) (map_none segment_check ready each)
-
-  pub after_is : (ready pointer : ℕ) (holds : Bool) → SegmentsBelow ready → pointer ≡ segment_pointer_at words object ready → holds ≡ is_null_or_pointer_to words 256 (get_or words pointer 0)
-      → then_some (not holds) pointer ≡ first_failing (segment_checks words object ready)
-  after_is ready pointer holds each at is =
-      lone pointer holds
-      ∙ ap (λ (h : Bool). first_failing (check pointer h ∷ [])) is
-      ∙ ap (λ (p : ℕ). first_failing (check p (is_null_or_pointer_to words 256 (get_or words p 0)) ∷ [])) at
-      ∙ sym (all_pass ready each)
 
   -- ── a whole object ──
 

@@ -1,5 +1,5 @@
 -- The owner words so far, as a walk goes on.
-use Rattle.std.proofs.Common.{◌≡◌, ℕ, ◌+◌, eqb, not, List, [], ◌∷◌, ◌++◌, map, get_or, sym, ◌∙◌, ap, append_assoc, arith}
+use Rattle.std.proofs.Common.{◌≡◌, ℕ, ◌+◌, true, false, eqb, not, List, [], ◌∷◌, ◌++◌, map, get_or, sym, ◌∙◌, ap, append_assoc, arith}
 use Rattle.std.specs.Prelude.{filter}
 use Rattle.std.specs.List.{flat_map}
 use Rattle.std.proofs.lemmas.Bool.{eq-eqb, ne_eqb, cond-true, cond-false}
@@ -10,9 +10,9 @@ use Rattle.std.proofs.lemmas.List.Folds.{flat_map-map}
 use Rattle.std.proofs.lemmas.List.FromFn.{map-range_with_len_more}
 use Rattle.image_layout.specs.Fixed.{table_slot_at}
 use Rattle.image_layout.specs.Places.{below}
-use Rattle.image_layout.specs.Records.{column_at, columns_at, table_words, created_header, ended_header}
-use Rattle.image_layout.specs.Tables.{table_block, table_count}
-use Rattle.image_layout.specs.Owners.{Owner, owner_of, names_one, array_owners, object_owners}
+use Rattle.image_layout.specs.Records.{table_words, created_header, ended_header}
+use Rattle.image_layout.specs.Tables.{column_count, column_record, extension_count, inner_columns, is_first_version, table_block, table_count}
+use Rattle.image_layout.specs.Owners.{Owner, owner_of, names_one, array_owners, extension_owner, extension_owners, object_owners}
 use Rattle.image_layout.proofs.Ranges.{below_more}
 use Rattle.image_rules.specs.declared.owner_words.OwnerWord.{OwnerWord}
 use Rattle.image_rules.specs.BuiltOwners.{as_read, built_column_owners, built_block_owners, built_table_owners, built_owner_words}
@@ -62,23 +62,37 @@ module _ (words : List ℕ) where
   pub parts_next : (g : ℕ → List Owner) (k : ℕ) (base found more : List OwnerWord) → found ≡ base ++ read (parts g k) → more ≡ found ++ read (g k) → more ≡ base ++ read (parts g (k + 1))
   parts_next g k base found more so_far then = read-append base found more (parts g k) (g k) so_far then ∙ ap (λ (os : List Owner). base ++ read os) (sym (parts-more g k))
 
+  -- ── the extensions of a table ──
+
+  abbrev pub extensions_named : ℕ → List Owner
+  extensions_named block = filter (names_one words) (map (extension_owner words block) (below (extension_count words block + 1)))
+
+  pub first_read : (block : ℕ) (found : List OwnerWord) → is_first_version words ≡ true → found ≡ found ++ read (extension_owners words block)
+  unfolding extension_owners
+  first_read block found first = sym (append-nil found) ∙ ap (λ (os : List Owner). found ++ read os) (sym (cond-true (is_first_version words) [] (extensions_named block) first))
+
+  pub extensions_read : (block : ℕ) (base found : List OwnerWord) → is_first_version words ≡ false → found ≡ base ++ read (extensions_named block) → found ≡ base ++ read (extension_owners words block)
+  unfolding extension_owners
+  extensions_read block base found second here = here ∙ ap (λ (os : List Owner). base ++ read os) (sym (cond-false (is_first_version words) [] (extensions_named block) second))
+
   -- ── a table ──
 
   abbrev pub numbered_columns : ℕ → ℕ → List Owner
-  numbered_columns block number = built_column_owners words (column_at block number)
+  numbered_columns block number = built_column_owners words (column_record words block number)
 
-  pub table_read : (table block slot count : ℕ) (base a b c found : List OwnerWord) → block ≡ table_block words table → slot ≡ table_slot_at table → count ≡ table_words (get_or words (columns_at block) 0)
-      → a ≡ base ++ as_read words (owner_of slot count) ∷ [] → b ≡ a ++ read (array_owners words (created_header block)) → c ≡ b ++ read (array_owners words (ended_header block))
-      → found ≡ c ++ read (parts (numbered_columns block) (get_or words (columns_at block) 0)) → found ≡ base ++ read (built_table_owners words table)
-  table_read table block slot count base a b c found block_is slot_is count_is first created ended columns =
-      let k : ℕ = get_or words (columns_at block) 0 in
+  pub table_read : (table block slot count : ℕ) (base a e b c found : List OwnerWord) → block ≡ table_block words table → slot ≡ table_slot_at table → count ≡ table_words (inner_columns words block)
+      → a ≡ base ++ as_read words (owner_of slot count) ∷ [] → e ≡ a ++ read (extension_owners words block) → b ≡ e ++ read (array_owners words (created_header block)) → c ≡ b ++ read (array_owners words (ended_header block))
+      → found ≡ c ++ read (parts (numbered_columns block) (column_count words block)) → found ≡ base ++ read (built_table_owners words table)
+  table_read table block slot count base a e b c found block_is slot_is count_is first extensions created ended columns =
+      let k : ℕ = column_count words block in
       let one : List Owner = owner_of slot count ∷ [] in
-      let own : List Owner = one ++ array_owners words (created_header block) in
+      let beside : List Owner = one ++ extension_owners words block in
+      let own : List Owner = beside ++ array_owners words (created_header block) in
       let arrays : List Owner = own ++ array_owners words (ended_header block) in
-      read-append base c found arrays (parts (numbered_columns block) k) (read-append base b c own (array_owners words (ended_header block)) (read-append base a b one (array_owners words (created_header block)) first created) ended) columns
-      ∙ ap (λ (os : List Owner). base ++ read (owner_of slot count ∷ (array_owners words (created_header block) ++ array_owners words (ended_header block) ++ os))) (sym (flat_map-map (built_column_owners words) (column_at block) (below k)))
+      read-append base c found arrays (parts (numbered_columns block) k) (read-append base b c own (array_owners words (ended_header block)) (read-append base e b beside (array_owners words (created_header block)) (read-append base a e one (extension_owners words block) first extensions) created) ended) columns
+      ∙ ap (λ (os : List Owner). base ++ read (owner_of slot count ∷ (extension_owners words block ++ array_owners words (created_header block) ++ array_owners words (ended_header block) ++ os))) (sym (flat_map-map (built_column_owners words) (column_record words block) (below k)))
       ∙ ap (λ (o : Owner). base ++ read (o ∷ built_block_owners words block)) (ap (λ (p : ℕ). owner_of p count) slot_is ∙ ap (owner_of (table_slot_at table)) count_is)
-      ∙ ap (λ (b : ℕ). base ++ read (owner_of (table_slot_at table) (table_words (get_or words (columns_at b) 0)) ∷ built_block_owners words b)) block_is
+      ∙ ap (λ (b : ℕ). base ++ read (owner_of (table_slot_at table) (table_words (inner_columns words b)) ∷ built_block_owners words b)) block_is
 
   -- ── all of them ──
 

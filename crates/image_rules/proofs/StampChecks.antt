@@ -1,5 +1,5 @@
 -- The checks of stamps, chunk by chunk.
-use Rattle.std.proofs.Common.{◌≡◌, ⊎_elim, ℕ, zero, suc, ◌+◌, ◌-◌, ◌<◌, ◌≤◌, max, Bool, true, false, ◌&&◌, ltb, leb, cond, List, [], ◌∷◌, ◌++◌, map, get_or, refl, sym, ◌∙◌, ap, subst, append-nil, arith}
+use Rattle.std.proofs.Common.{◌≡◌, ⊎_elim, ℕ, zero, suc, ◌+◌, ◌-◌, ◌<◌, ◌≤◌, max, Bool, true, false, ◌&&◌, ltb, leb, cond, List, [], ◌∷◌, ◌++◌, get_or, refl, sym, ◌∙◌, ap, subst, append-nil, arith}
 use Rattle.std.specs.Prelude.{◌↔◌, Option, None, Some, IsNone, IfSome, option_map}
 use Rattle.std.specs.Option.{is_some}
 use Rattle.std.specs.List.{flat_map, list_all, range_with_len}
@@ -7,11 +7,11 @@ use Rattle.std.proofs.lemmas.Bool.{and_parts, cases_lt, both_ways, ltb-true, lt-
 use Rattle.std.proofs.lemmas.List.Concat.{flat_map-append}
 use Rattle.std.proofs.lemmas.List.Folds.{flat_map-map, list_all-map}
 use Rattle.image_layout.specs.Places.{below, place_in, is_pointer_to}
-use Rattle.image_layout.specs.Records.{codes_header, column_at, columns_at, created_header, ended_header, high_at}
+use Rattle.image_layout.specs.Records.{created_header, ended_header, high_at, since_at}
 use Rattle.image_layout.specs.Arrays.{array_rule, capacity, capacity_of, chunk_of, chunk_pointer_at, chunk_words, place_of}
-use Rattle.image_layout.specs.Tables.{table_count, table_block, columns_of}
+use Rattle.image_layout.specs.Tables.{column_count, column_record, columns_of, since_of, table_block, table_count}
 use Rattle.image_layout.specs.Checks.{Check, check, Keeps, first_failing}
-use Rattle.image_layout.specs.SoundRules.{is_created, is_ended, row_checks, row_headers, stamp_checks, stamp_rule}
+use Rattle.image_layout.specs.SoundRules.{is_created, is_ended, is_row_bound, row_checks, stamp_checks, stamp_rule}
 use Rattle.image_rules.specs.Stamps.{chunk_place, place_checks}
 use Rattle.image_layout.proofs.ChunkSizes.{capacity_next, capacity-rises, chunk_is}
 use Rattle.image_layout.proofs.Faults.{passes, fails}
@@ -180,7 +180,7 @@ module _ (words : List ℕ) where
     reaches header = leb bound (capacity words header)
 
     abbrev pub is_bounded : Bool
-    is_bounded = list_all (λ header. leb (get_or words (high_at block) 0) (capacity words header)) (row_headers words block)
+    is_bounded = is_row_bound words block (get_or words (high_at block) 0)
 
     abbrev chunks : ℕ
     chunks = max (get_or words (created_header block) 0) (get_or words (ended_header block) 0)
@@ -209,42 +209,44 @@ module _ (words : List ℕ) where
     pub chunks_none : (bounded : Bool) (count : ℕ) → bounded ≡ is_bounded → bounded ≡ true → count ≡ max (get_or words (created_header block) 0) (get_or words (ended_header block) 0) → ChunksBelow count → None ≡ first_failing (stamp_checks words block)
     chunks_none bounded count is hit size each = sym (table_chunks bounded is hit ∙ flat_none chunk_rows chunks (λ x lt. each x (omega (arith, size, lt))))
 
-    -- ── the bound and the arrays ──
+    -- ── the bound, the arrays and the columns ──
 
-    abbrev pub CodesBelow : ℕ → Type 0
-    CodesBelow k = (x : ℕ) → x < k → get_or words (high_at block) 0 ≤ capacity words (codes_header (column_at block x))
+    abbrev pub SincesBelow : ℕ → Type 0
+    SincesBelow k = (x : ℕ) → x < k → get_or words (since_at (column_record words block x)) 0 ≤ get_or words (high_at block) 0
 
-    abbrev codes : List ℕ
-    codes = map codes_header (columns_of words block)
+    abbrev begins : ℕ → Bool
+    begins column = leb (since_of words column) bound
 
-    abbrev code_reaches : ℕ → Bool
-    code_reaches number = reaches (codes_header (column_at block number))
+    abbrev numbered_begins : ℕ → Bool
+    numbered_begins number = begins (column_record words block number)
 
-    codes_are : list_all reaches codes ≡ list_all code_reaches (below (get_or words (columns_at block) 0))
-    codes_are = list_all-map reaches codes_header (columns_of words block) ∙ list_all-map (λ column. reaches (codes_header column)) (column_at block) (below (get_or words (columns_at block) 0))
+    columns_are : list_all begins (columns_of words block) ≡ list_all numbered_begins (below (column_count words block))
+    columns_are = list_all-map begins (column_record words block) (below (column_count words block))
 
-    three : (created ended rest : Bool) → created ≡ reaches (created_header block) → ended ≡ reaches (ended_header block) → rest ≡ list_all reaches codes → (created && (ended && rest)) ≡ is_bounded
+    three : (created ended rest : Bool) → created ≡ reaches (created_header block) → ended ≡ reaches (ended_header block) → rest ≡ list_all begins (columns_of words block) → (created && ended && rest) ≡ is_bounded
     three created ended rest first second last = rw (first, second, last) refl
 
     pub created_short : capacity words (created_header block) < get_or words (high_at block) 0 → false ≡ is_bounded
-    created_short short = three false (reaches (ended_header block)) (list_all reaches codes) (sym (lt-leb bound (capacity words (created_header block)) short)) refl refl
+    created_short short = three false (reaches (ended_header block)) (list_all begins (columns_of words block)) (sym (lt-leb bound (capacity words (created_header block)) short)) refl refl
 
     pub ended_short : get_or words (high_at block) 0 ≤ capacity words (created_header block) → capacity words (ended_header block) < get_or words (high_at block) 0 → false ≡ is_bounded
-    ended_short le short = three true false (list_all reaches codes) (sym (le-leb bound (capacity words (created_header block)) le)) (sym (lt-leb bound (capacity words (ended_header block)) short)) refl
+    ended_short le short = three true false (list_all begins (columns_of words block)) (sym (le-leb bound (capacity words (created_header block)) le)) (sym (lt-leb bound (capacity words (ended_header block)) short)) refl
 
-    pub codes_short : (number : ℕ) → get_or words (high_at block) 0 ≤ capacity words (created_header block) → get_or words (high_at block) 0 ≤ capacity words (ended_header block) → number < get_or words (columns_at block) 0
-        → capacity words (codes_header (column_at block number)) < get_or words (high_at block) 0 → false ≡ is_bounded
-    codes_short number first second lt short =
+    pub begins_late : (number : ℕ) → get_or words (high_at block) 0 ≤ capacity words (created_header block) → get_or words (high_at block) 0 ≤ capacity words (ended_header block) → number < column_count words block
+        → get_or words (high_at block) 0 < get_or words (since_at (column_record words block number)) 0 → false ≡ is_bounded
+    begins_late number first second lt late =
         three true true false (sym (le-leb bound (capacity words (created_header block)) first)) (sym (le-leb bound (capacity words (ended_header block)) second))
-        (sym (codes_are ∙ not_all_from code_reaches (get_or words (columns_at block) 0) 0 number (omega arith) (omega (arith, lt)) (lt-leb bound (capacity words (codes_header (column_at block number))) short)))
+        (sym (columns_are ∙ not_all_from numbered_begins (column_count words block) 0 number (omega arith) (omega (arith, lt)) (lt-leb (get_or words (since_at (column_record words block number)) 0) bound late)))
 
-    pub all_reach : get_or words (high_at block) 0 ≤ capacity words (created_header block) → get_or words (high_at block) 0 ≤ capacity words (ended_header block) → CodesBelow (get_or words (columns_at block) 0) → true ≡ is_bounded
+    pub all_reach : get_or words (high_at block) 0 ≤ capacity words (created_header block) → get_or words (high_at block) 0 ≤ capacity words (ended_header block) → SincesBelow (column_count words block) → true ≡ is_bounded
     all_reach first second each =
         three true true true (sym (le-leb bound (capacity words (created_header block)) first)) (sym (le-leb bound (capacity words (ended_header block)) second))
-        (sym (codes_are ∙ all_from code_reaches (get_or words (columns_at block) 0) 0 (λ x low high. le-leb bound (capacity words (codes_header (column_at block x))) (each x (omega (arith, high))))))
+        (sym (columns_are ∙ all_from numbered_begins (column_count words block) 0 (λ x low high. le-leb (get_or words (since_at (column_record words block x)) 0) bound (each x (omega (arith, high))))))
 
     pub created_reaches : (bounded : Bool) → bounded ≡ is_bounded → bounded ≡ true → get_or words (high_at block) 0 ≤ capacity words (created_header block)
-    created_reaches bounded is hit = leb-true bound (capacity words (created_header block)) (and_parts (reaches (created_header block)) (list_all reaches (ended_header block ∷ codes)) (sym is ∙ hit)).0
+    created_reaches bounded is hit =
+        leb-true bound (capacity words (created_header block))
+        (and_parts (reaches (created_header block)) (reaches (ended_header block)) (and_parts (reaches (created_header block) && reaches (ended_header block)) (list_all begins (columns_of words block)) (sym is ∙ hit)).0).0
 
     -- the number of rows of an array, as it is read
     pub over : (place header at rows : ℕ) → place ≡ high_at block → header ≡ at → rows ≡ capacity words header → rows < get_or words place 0 → capacity words at < get_or words (high_at block) 0

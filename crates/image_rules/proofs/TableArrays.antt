@@ -3,9 +3,8 @@ use Rattle.std.proofs.Common.{◌≡◌, ℕ, ◌<◌, ◌≤◌, true, leb, ltb
 use Rattle.std.specs.Prelude.{None}
 use Rattle.std.specs.List.{flat_map}
 use Rattle.std.proofs.lemmas.Bool.{leb-true, lt-ltb, cond-true}
-use Rattle.std.proofs.lemmas.List.Folds.{flat_map-map}
 use Rattle.image_layout.specs.Places.{below, is_pointer_to}
-use Rattle.image_layout.specs.Records.{column_at, columns_at, created_header, ended_header, codes_header}
+use Rattle.image_layout.specs.Records.{created_header, ended_header}
 use Rattle.image_layout.specs.Arrays.{array_rule, chunk_pointer_at, chunk_words, is_chunk_pointer}
 use Rattle.image_layout.specs.Tables.{table_count, table_block, column_headers, columns_of}
 use Rattle.image_layout.specs.Checks.{Check, check, Keeps, first_failing}
@@ -13,7 +12,7 @@ use Rattle.image_layout.specs.EntryRules.{arrays_rule}
 use Rattle.image_layout.proofs.Faults.{all_hold, first_failing-none}
 use Rattle.image_rules.specs.Parts.{table_arrays_rule}
 use Rattle.image_rules.proofs.ArrayChecks.{table_kept}
-use Rattle.image_rules.proofs.Firsts.{flat_part, none-head, none-append, map_holds, flat_map-flat_map}
+use Rattle.image_rules.proofs.Firsts.{none-head, none-append, map_holds}
 
 module _ (words : List ℕ) where
   abbrev array_checks : ℕ → List Check
@@ -62,13 +61,3 @@ module _ (words : List ℕ) where
 
     pub ended_rule : (header : ℕ) → header ≡ ended_header block → Keeps words (array_rule header)
     ended_rule header at = kept_none header (ap (λ (h : ℕ). first_failing (array_rule h words)) at ∙ (none-append (array_checks (ended_header block)) of_columns behind).0)
-
-    abbrev column_checks : ℕ → List Check
-    column_checks number = flat_map array_checks (column_headers (column_at block number))
-
-    pub codes_rule : (number column header : ℕ) → number < get_or words (columns_at block) 0 → column ≡ column_at block number → header ≡ codes_header column → Keeps words (array_rule header)
-    codes_rule number column header lt which at =
-        let columns = (none-append (array_checks (ended_header block)) of_columns behind).1 in
-        let each = flat_part column_checks (get_or words (columns_at block) 0) number lt
-        (sym (ap first_failing (flat_map-flat_map array_checks column_headers (columns_of words block) ∙ flat_map-map (λ column. flat_map array_checks (column_headers column)) (column_at block) (below (get_or words (columns_at block) 0)))) ∙ columns) in
-        kept_none header (ap (λ (h : ℕ). first_failing (array_rule h words)) (at ∙ ap codes_header which) ∙ (none-append (array_checks (codes_header (column_at block number))) _ each).0)

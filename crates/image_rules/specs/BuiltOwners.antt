@@ -11,7 +11,7 @@ use Rattle.image_layout.specs.Places.{below}
 use Rattle.image_layout.specs.Records.{codes_header, created_header, dictionary_header, ended_header, first_leaf_at}
 use Rattle.image_layout.specs.Blocks.{Block, slot_words, slots_of, slot_at, says_big, live_blocks}
 use Rattle.image_layout.specs.Tables.{table_count, table_block, columns_of, all_columns}
-use Rattle.image_layout.specs.Owners.{Owner, word_of, array_owners, table_owner, object_owners, owns_block}
+use Rattle.image_layout.specs.Owners.{Owner, word_of, array_owners, extension_owners, table_owner, object_owners, owns_block}
 use Rattle.image_layout.specs.Checks.{Check, check, Rule}
 use Rattle.image_layout.specs.EntryRules.{is_among}
 use Rattle.image_layout.specs.SoundRules.{distinct_checks}
@@ -22,9 +22,10 @@ built_column_owners words column = array_owners words (codes_header column) ++ a
 
 abbrev pub built_block_owners : List ℕ → ℕ → List Owner
 built_block_owners words block =
-    array_owners words (created_header block) ++ array_owners words (ended_header block) ++ flat_map (built_column_owners words) (columns_of words block)
+    extension_owners words block ++ array_owners words (created_header block) ++ array_owners words (ended_header block)
+    ++ flat_map (built_column_owners words) (columns_of words block)
 
--- a table's slot, then the chunk pointers of its arrays
+-- a table's slot, then the pointers to its extensions and to the chunks of its arrays
 abbrev pub built_table_owners : List ℕ → ℕ → List Owner
 built_table_owners words table = table_owner words table ∷ built_block_owners words (table_block words table)
 

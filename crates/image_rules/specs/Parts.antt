@@ -1,14 +1,14 @@
 -- Parts of the rules, which a function of their own tries.
-use Rattle.std.specs.Prelude.{ℕ, zero, suc, ◌+◌, ◌≤◌, List, [], ◌∷◌, ◌++◌, map, length, slice_index}
+use Rattle.std.specs.Prelude.{ℕ, zero, suc, ◌+◌, ◌<◌, ◌≤◌, IsTrue, List, [], ◌∷◌, ◌++◌, map, length, slice_index}
 use Rattle.std.specs.List.{flat_map}
 use Rattle.image_layout.specs.Fixed.{commit_word_at, state_at}
-use Rattle.image_layout.specs.Places.{below, is_null_or_pointer_to}
-use Rattle.image_layout.specs.Records.{column_name_at, columns_at, table_name_at, table_words}
+use Rattle.image_layout.specs.Places.{below, is_null_or_pointer_to, is_pointer}
+use Rattle.image_layout.specs.Records.{column_name_at, extension_words, table_name_at, table_words}
 use Rattle.image_layout.specs.Objects.{entry_places, segment_pointer_at}
 use Rattle.image_layout.specs.Arrays.{array_rule}
-use Rattle.image_layout.specs.Tables.{array_headers, columns_of}
+use Rattle.image_layout.specs.Tables.{array_headers, column_count, extension_count, extension_of, extension_pointer_at, inner_columns}
 use Rattle.image_layout.specs.Checks.{Check, Rule, check}
-use Rattle.image_layout.specs.EntryRules.{is_segment_pointer, kind_check, name_checks}
+use Rattle.image_layout.specs.EntryRules.{column_name_checks, extension_pointer_check, is_segment_pointer, kind_check, name_checks}
 use Rattle.image_layout.specs.SoundRules.{zero_check}
 use Rattle.image_layout.specs.Owners.{next_table_slots}
 
@@ -18,23 +18,47 @@ segment_checks words object ready =
     map (λ segment. check (segment_pointer_at words object segment) (is_segment_pointer words object segment)) (below ready)
     ++ check (segment_pointer_at words object ready) (is_null_or_pointer_to words 256 (slice_index words (segment_pointer_at words object ready))) ∷ []
 
--- a table's block has 1 to 16 columns, and its words lie in the image
+-- the pointers to the first extensions of a table, so many of them, and the one after them
+abbrev pub pointer_checks : List ℕ → ℕ → ℕ → List Check
+pointer_checks words block count =
+    map (extension_pointer_check words block) (below count)
+    ++ check (extension_pointer_at words block count)
+    (is_null_or_pointer_to words extension_words (slice_index words (extension_pointer_at words block count))) ∷ []
+
+-- the block of a table with 1 to 16 columns, the first of which stand in it, and its words lie in the image
+pub record IsTableHead (words : List ℕ) (block : ℕ) : Type 0 where
+  pub fixed : 32768 ≤ length words
+  pub some : 1 ≤ inner_columns words block
+  pub inner : inner_columns words block ≤ column_count words block
+  pub most : column_count words block ≤ 16
+  pub within : block + table_words (inner_columns words block) ≤ length words
+
+-- a pointer to an extension names words of the image
+pub record NamesExtension (words : List ℕ) (block extension : ℕ) : Type 0 where
+  pub pointer : IsTrue (is_pointer words (slice_index words (extension_pointer_at words block extension)))
+  pub within : extension_of words block extension + extension_words ≤ length words
+
+-- and so do the pointers to the extensions of its other columns
 pub record IsTableBlock (words : List ℕ) (block : ℕ) : Type 0 where
-  pub some : 1 ≤ slice_index words (columns_at block)
-  pub most : slice_index words (columns_at block) ≤ 16
-  pub within : block + table_words (slice_index words (columns_at block)) ≤ length words
+  pub fixed : 32768 ≤ length words
+  pub some : 1 ≤ inner_columns words block
+  pub inner : inner_columns words block ≤ column_count words block
+  pub most : column_count words block ≤ 16
+  pub within : block + table_words (inner_columns words block) ≤ length words
+  pub extensions : (extension : ℕ) → extension < extension_count words block → NamesExtension words block extension
 
 -- 10, of the arrays of one table
 abbrev pub table_arrays_rule : ℕ → Rule
 table_arrays_rule block words = flat_map (λ header. array_rule header words) (array_headers words block)
 
--- a column's kind and name
-abbrev pub column_name_checks : List ℕ → ℕ → List Check
-column_name_checks words column = kind_check words column ∷ name_checks words (column_name_at column)
+-- a column's kind and name, by the place of its record
+abbrev pub kind_name_checks : List ℕ → ℕ → List Check
+kind_name_checks words column = kind_check words column ∷ name_checks words (column_name_at column)
 
 -- a table's name, and the kinds and names of its columns
 abbrev pub table_name_checks : List ℕ → ℕ → List Check
-table_name_checks words block = name_checks words (table_name_at block) ++ flat_map (column_name_checks words) (columns_of words block)
+table_name_checks words block =
+    name_checks words (table_name_at block) ++ flat_map (column_name_checks words block) (below (column_count words block))
 
 -- 17, as far as it is about table slots: the one at the table count is null
 unfoldable pub next_slot_rule : Rule

@@ -7,11 +7,12 @@ ghost use Rattle.image_layout.specs.Checks.{Keeps, first_failing};
 ghost use Rattle.image_layout.specs.EntryRules.{arrays_rule, table_count_rule, table_slot_rule};
 ghost use Rattle.image_rules.specs.Parts.{IsTableBlock, table_arrays_rule};
 
+use crate::extensions::column_record;
 use crate::pointers::{is_null_or_words, pointed_words};
 use crate::table_rules::{columns_of, published_tables, table_block};
 use pm_model::{
-    MAX_CHUNKS, Place, chunk_capacity, chunk_pointer, chunk_words, codes_header, column,
-    created_header, dictionary_header, ended_header,
+    MAX_CHUNKS, Place, chunk_capacity, chunk_pointer, chunk_words, codes_header, created_header,
+    dictionary_header, ended_header,
 };
 
 /// The first word of an array's header that breaks the rule of arrays: the number of its chunks, or a pointer to one.
@@ -48,7 +49,7 @@ fn table_arrays_fault(words: &[u64], block: Place) -> Option<u32>
         return ended;
     }
     for number in 0..columns_of(words, block) {
-        let found = column_arrays_fault(words, column(block, number));
+        let found = column_arrays_fault(words, column_record(words, block, number));
         if found.is_some() {
             return found;
         }

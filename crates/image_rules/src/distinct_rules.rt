@@ -1,15 +1,16 @@
 // The rule that names differ.
 ghost use Rattle.std.specs.Prelude.{◌≡◌, ◌+◌, ◌%◌, ◌<◌, ◌≤◌, [], map, length, slice_index};
 ghost use Rattle.std.specs.List.{list_any};
-ghost use Rattle.image_layout.specs.Records.{column_at, column_name_at, columns_at, table_name_at};
+ghost use Rattle.image_layout.specs.Records.{column_name_at, table_name_at};
 ghost use Rattle.image_layout.specs.Tables as tables;
 ghost use Rattle.image_layout.specs.Checks.{Keeps, first_failing};
 ghost use Rattle.image_layout.specs.EntryRules.{table_count_rule, table_slot_rule};
 ghost use Rattle.image_layout.specs.SoundRules.{same_name as names_are_one, name_place_checks, distinct_name_rule};
 ghost use Rattle.image_rules.specs.Parts.{IsTableBlock, before_of};
 
+use crate::extensions::column_record;
 use crate::table_rules::{columns_of, published_tables, table_block};
-use pm_model::{Place, column, column_name, table_name};
+use pm_model::{Place, column_name, table_name};
 
 /// The first word of the first name that stands before already: a table's name among the tables, or a column's among
 /// those of its table.
@@ -61,7 +62,7 @@ fn column_repeat(words: &[u64], block: Place) -> Option<u32>
     ensures { result ≡ first_failing (name_place_checks words.now [] (map column_name_at (tables.columns_of words.now block.0))) }
 {
     for number in 0..columns_of(words, block) {
-        let name = column_name(column(block, number));
+        let name = column_name(column_record(words, block, number));
         if is_column_name(words, block, number, name) {
             return Some(name.0);
         }
@@ -73,12 +74,16 @@ fn column_repeat(words: &[u64], block: Place) -> Option<u32>
 fn is_column_name(words: &[u64], block: Place, count: u8, name: Place) -> bool
     requires most { length words.now ≤ 4194304 }
     requires block { IsTableBlock words.now block.0 }
-    requires count { count ≤ slice_index words.now (columns_at block.0) }
+    requires count { count ≤ tables.column_count words.now block.0 }
     requires within { name.0 + 3 ≤ length words.now }
-    ensures { result ≡ list_any (names_are_one words.now name.0) (before_of (λ number. column_name_at (column_at block.0 number)) count) }
+    ensures { result ≡ list_any (names_are_one words.now name.0) (before_of (λ number. column_name_at (tables.column_record words.now block.0 number)) count) }
 {
     for number in 0..count {
-        if same_name(words, name, column_name(column(block, number))) {
+        if same_name(
+            words,
+            name,
+            column_name(column_record(words, block, number)),
+        ) {
             return true;
         }
     }

@@ -19,6 +19,7 @@
 mod array_rules;
 mod distinct_rules;
 mod entry_rules;
+mod extensions;
 mod first_words;
 mod heap_rules;
 mod lane_rules;
@@ -37,7 +38,8 @@ mod table_rules;
 pub use array_rules::{arrays_fault, capacity};
 pub use distinct_rules::distinct_name_fault;
 pub use entry_rules::{entries_fault, next_segment, ready_count};
-pub use first_words::{last_fault, magic_fault, version_fault};
+pub use extensions::{column_record, is_first_version};
+pub use first_words::{last_fault, latest_version_fault, magic_fault, version_fault};
 pub use heap_rules::{bitmap_fault, descriptor_fault, is_small_page, reserved_fault};
 pub use lane_rules::lane_fault;
 pub use name_rules::name_fault;

@@ -2,17 +2,19 @@
 ghost use Rattle.std.specs.Prelude.{◌≡◌, ◌+◌, ◌%◌, ◌<◌, ◌≤◌, ◌++◌, [], ◌∷◌, filter, map, IfOk, length, slice_index};
 ghost use Rattle.image_layout.specs.Tables as tables;
 ghost use Rattle.image_layout.specs.Blocks.{block_words as words_of_block};
-ghost use Rattle.image_layout.specs.Owners.{array_owners, names_one, object_owners, owner_of};
+ghost use Rattle.image_layout.specs.Owners.{array_owners, extension_owners, names_one, object_owners, owner_of};
 ghost use Rattle.image_layout.specs.Checks.{Keeps};
 ghost use Rattle.image_layout.specs.EntryRules.{table_count_rule, table_slot_rule, objects_rule};
+ghost use Rattle.image_rules.specs.Parts.{IsTableBlock};
 ghost use Rattle.image_rules.specs.BuiltOwners.{as_read, built_column_owners, built_table_owners, built_owner_words};
 
 use crate::entry_rules::{next_segment, ready_count};
+use crate::extensions::{column_record, columns_in_block, extension_pointer, is_first_version};
 use crate::table_rules::{columns_of, published_tables, table_block};
 use heap_small::{class_for, class_words};
 use pm_model::{
-    ENTRY_SEGMENT_WORDS, MAX_CHUNKS, NoMemory, OBJECTS, PAGE_WORDS, Place, chunk_pointer,
-    chunk_words, codes_header, column, created_header, dictionary_header, ended_header,
+    ENTRY_SEGMENT_WORDS, EXTENSION_WORDS, MAX_CHUNKS, NoMemory, OBJECTS, PAGE_WORDS, Place,
+    chunk_pointer, chunk_words, codes_header, created_header, dictionary_header, ended_header,
     segment_pointer, table_slot, table_words,
 };
 use std::alloc::Global;
@@ -25,7 +27,7 @@ pub(crate) struct OwnerWord {
     pub(crate) block_words: u32,
 }
 
-/// The owner words, in the order of the walk: table by table its slot and the chunk pointers of its arrays, and then
+/// The owner words, in the order of the walk: table by table its slot, its extensions and the chunks of its arrays, and then
 /// object by object the pointers to its segments.
 pub(crate) fn owner_words(alloc: Global, words: &[u64]) -> Result<Vec<OwnerWord>, NoMemory>
     requires segments { length words.now % 32768 ≡ 0 }
@@ -56,12 +58,34 @@ fn push_table_owners(owners: &mut Vec<OwnerWord>, words: &[u64], table: u8) -> R
     ensures { IfOk result (λ _. owners.new.items ≡ owners.old.items ++ map (as_read words.now) (built_table_owners words.now table)) }
 {
     let block = table_block(words, table);
-    let columns = columns_of(words, block);
-    push_owner(owners, words, table_slot(table), table_words(columns))?;
+    let inner = columns_in_block(words, block);
+    push_owner(owners, words, table_slot(table), table_words(inner))?;
+    push_extension_owners(owners, words, block)?;
     push_array_owners(owners, words, created_header(block))?;
     push_array_owners(owners, words, ended_header(block))?;
-    for number in 0..columns {
-        push_column_owners(owners, words, column(block, number))?;
+    for number in 0..columns_of(words, block) {
+        push_column_owners(owners, words, column_record(words, block, number))?;
+    }
+    Ok(())
+}
+
+// In version 2 the pointers to a table's extensions, and the one after them where it names a block.
+fn push_extension_owners(
+    owners: &mut Vec<OwnerWord>,
+    words: &[u64],
+    block: Place,
+) -> Result<(), NoMemory>
+    requires most { length words.now ≤ 4194304 }
+    requires block { IsTableBlock words.now block.0 }
+    ensures { IfOk result (λ _. owners.new.items ≡ owners.old.items ++ map (as_read words.now) (extension_owners words.now block.0)) }
+{
+    if is_first_version(words) {
+        return Ok(());
+    }
+    let count = columns_of(words, block) - columns_in_block(words, block);
+    for number in 0..count + 1 {
+        let pointer = extension_pointer(words, block, number);
+        push_if_named(owners, words, pointer, EXTENSION_WORDS)?;
     }
     Ok(())
 }

@@ -5,20 +5,22 @@ ghost use Rattle.image_layout.specs.Arrays.{array_rule, capacity as capacity_at,
 ghost use Rattle.image_layout.specs.Records.{created_header as created_at, ended_header as ended_at, high_at};
 ghost use Rattle.image_layout.specs.Checks.{Keeps, first_failing};
 ghost use Rattle.image_layout.specs.EntryRules.{arrays_rule, table_count_rule, table_slot_rule};
-ghost use Rattle.image_layout.specs.SoundRules.{is_commit as commit_holds, is_created as created_holds, is_ended as ended_holds, row_checks, row_headers, stamp_checks, stamp_rule};
+ghost use Rattle.image_layout.specs.SoundRules.{is_commit as commit_holds, is_created as created_holds, is_ended as ended_holds, is_row_bound, row_checks, stamp_checks, stamp_rule};
 ghost use Rattle.image_rules.specs.Parts.{IsTableBlock, table_arrays_rule};
 ghost use Rattle.image_rules.specs.Stamps.{chunk_place, place_checks, stamp_of};
 
 use crate::array_rules::capacity;
+use crate::extensions::column_record;
 use crate::pointers::pointed_words;
 use crate::table_rules::{columns_of, published_tables, table_block};
+use image_layout::since;
 use pm_model::{
-    NO_COMMIT, Place, chunk_capacity, chunk_pointer, chunk_words, codes_header, column,
-    created_header, ended_header, high, last_commit,
+    NO_COMMIT, Place, chunk_capacity, chunk_pointer, chunk_words, created_header, ended_header,
+    high, last_commit,
 };
 
-/// The first word that breaks the rule of stamps: a table's bound on its rows with stamps, where an array has fewer rows,
-/// or a stamp, row by row, that of the row's creation before that of its end. Time as for the rows of each table's two
+/// The first word that breaks the rule of stamps: a table's bound on its rows with stamps, where an array of stamps has
+/// fewer rows or a column begins above it, or a stamp, row by row, that of the row's creation before that of its end. Time as for the rows of each table's two
 /// arrays of stamps.
 pub fn stamp_fault(words: &[u64]) -> Option<u32>
     requires segments { length words.now % 32768 ≡ 0 }
@@ -60,12 +62,12 @@ fn table_stamp_fault(words: &[u64], block: Place) -> Option<u32>
     None
 }
 
-// Whether each array with a word for each row has all rows below the table's bound.
+// Whether there are stamps for all rows below the table's bound, and no column begins above it.
 fn is_bounded(words: &[u64], block: Place) -> bool
     requires most { length words.now ≤ 4194304 }
     requires block { IsTableBlock words.now block.0 }
     requires arrays { Keeps words.now (table_arrays_rule block.0) }
-    ensures { result ≡ list_all (λ header. nat_le (slice_index words.now (high_at block.0)) (capacity_at words.now header)) (row_headers words.now block.0) }
+    ensures { result ≡ is_row_bound words.now block.0 (slice_index words.now (high_at block.0)) }
 {
     let bound = words[high(block).0 as usize];
     if bound > u64::from(capacity(words, created_header(block))) {
@@ -75,7 +77,8 @@ fn is_bounded(words: &[u64], block: Place) -> bool
         return false;
     }
     for number in 0..columns_of(words, block) {
-        if bound > u64::from(capacity(words, codes_header(column(block, number)))) {
+        let first = words[since(column_record(words, block, number)).0 as usize];
+        if first > bound {
             return false;
         }
     }

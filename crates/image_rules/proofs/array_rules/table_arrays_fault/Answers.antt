@@ -17,12 +17,12 @@ returns-then-is_some-3 c =
     (array_at c.args.words.now _ _ _ c.created_header.ensures c.array_fault-created.ensures) (sym c.is_some.ensures ∙ c.if-is_some.false)
     (array_at c.args.words.now _ _ _ c.ended_header.ensures c.array_fault-ended.ensures) (sym c.is_some-2.ensures ∙ c.if-is_some-2.false)
     (omega (arith, c.loop-number-test.true, c.columns_of-number-end.ensures.count)) c.loop-number.invariant
-    (column_here c.args.words.now c.args.block.0 c.loop-number.number c.column.result.0 c.column_arrays_fault-found.result c.column.ensures c.column_arrays_fault-found.ensures) (sym c.is_some-in-loop-number.ensures ∙ c.if-is_some-3.true)
+    (column_here c.args.words.now c.args.block.0 c.loop-number.number c.column_record.result.0 c.column_arrays_fault-found.result c.column_record.ensures.place c.column_arrays_fault-found.ensures) (sym c.is_some-in-loop-number.ensures ∙ c.if-is_some-3.true)
 
 pub loop-number-preserved : goal.loop-number-preserved
 loop-number-preserved c =
     below_more _ _ c.loop-number.invariant
-    (column_none c.args.words.now c.args.block.0 c.loop-number.number c.column.result.0 c.column_arrays_fault-found.result c.column.ensures c.column_arrays_fault-found.ensures (sym c.is_some-in-loop-number.ensures ∙ c.if-is_some-3.false))
+    (column_none c.args.words.now c.args.block.0 c.loop-number.number c.column_record.result.0 c.column_arrays_fault-found.result c.column_record.ensures.place c.column_arrays_fault-found.ensures (sym c.is_some-in-loop-number.ensures ∙ c.if-is_some-3.false))
 
 pub returns : goal.returns
 returns c =

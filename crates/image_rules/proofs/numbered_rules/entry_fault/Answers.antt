@@ -1,8 +1,8 @@
 use Rattle.std.proofs.Common.{◌≡◌, [], ◌∷◌, ◌++◌, List, ℕ, false, sym, ◌∙◌, arith}
-use Rattle.std.specs.Prelude.{Option, None}
+use Rattle.std.specs.Prelude.{Option}
 use Rattle.std.specs.Option.{is_some}
 use Rattle.image_layout.specs.Checks.{Keeps, numbered, first_fault}
-use Rattle.image_layout.specs.EntryRules.{magic_rule, table_count_rule, table_slot_rule, arrays_rule, objects_rule, entries_rule}
+use Rattle.image_layout.specs.EntryRules.{magic_rule, table_count_rule, table_slot_rule, entries_rule}
 use Rattle.image_layout.proofs.Faults.{keeps_all}
 use Rattle.image_rules.specs.declared.numbered_rules.RuleFault.{RuleFault}
 use Rattle.image_rules.specs.NumberedRules.{told, fixed_rules, structure_rules}

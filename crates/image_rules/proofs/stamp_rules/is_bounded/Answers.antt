@@ -1,8 +1,8 @@
-use Rattle.std.proofs.Common.{◌≤◌, ◌∙◌, ap, get_or, below_more, arith}
-use Rattle.image_layout.specs.Arrays.{capacity}
-use Rattle.image_layout.specs.Records.{created_header, ended_header, codes_header, column_at, high_at}
-use Rattle.image_rules.proofs.TableArrays.{count_few, created_rule, ended_rule, codes_rule}
-use Rattle.image_rules.proofs.StampChecks.{created_short, ended_short, codes_short, all_reach, over, within}
+use Rattle.std.proofs.Common.{ℕ, ◌≤◌, ◌∙◌, ap, get_or, below_more, arith}
+use Rattle.image_layout.specs.Records.{created_header, ended_header, high_at, since_at}
+use Rattle.image_layout.specs.Tables.{column_record}
+use Rattle.image_rules.proofs.TableArrays.{count_few, created_rule, ended_rule}
+use Rattle.image_rules.proofs.StampChecks.{created_short, ended_short, begins_late, all_reach, over, within}
 use Rattle.image_rules.proofs.stamp_rules.is_bounded.Goals as goal
 
 pub capacity-requires-clause-rule : goal.capacity-requires-clause-rule
@@ -10,11 +10,6 @@ capacity-requires-clause-rule c = count_few c.args.words.now c.created_header.re
 
 pub capacity-requires-2-clause-rule : goal.capacity-requires-2-clause-rule
 capacity-requires-2-clause-rule c = count_few c.args.words.now c.ended_header.result.0 (ended_rule c.args.words.now c.args.block.0 c.requires.arrays c.ended_header.result.0 c.ended_header.ensures)
-
-pub capacity-requires-in-loop-number-clause-rule : goal.capacity-requires-in-loop-number-clause-rule
-capacity-requires-in-loop-number-clause-rule c =
-    count_few c.args.words.now c.codes_header.result.0
-    (codes_rule c.args.words.now c.args.block.0 c.requires.arrays c.loop-number.number c.column.result.0 c.codes_header.result.0 (omega (arith, c.loop-number-test.true, c.columns_of-number-end.ensures.count)) c.column.ensures c.codes_header.ensures)
 
 pub returns-then-bound-from : goal.returns-then-bound-from
 returns-then-bound-from c =
@@ -26,20 +21,24 @@ returns-then-bound-from-2 c =
     (within c.args.words.now c.args.block.0 c.high.result.0 c.created_header.result.0 (created_header c.args.block.0) c.capacity.result c.high.ensures c.created_header.ensures c.capacity.ensures.words (omega (arith, c.if-bound-from.false, c.from.ensures)))
     (over c.args.words.now c.args.block.0 c.high.result.0 c.ended_header.result.0 (ended_header c.args.block.0) c.capacity-2.result c.high.ensures c.ended_header.ensures c.capacity-2.ensures.words (omega (arith, c.if-bound-from-2.true, c.from-2.ensures)))
 
-pub returns-then-bound-from-3 : goal.returns-then-bound-from-3
-returns-then-bound-from-3 c =
-    codes_short c.args.words.now c.args.block.0 c.loop-number.number
+pub returns-then-first-bound : goal.returns-then-first-bound
+returns-then-first-bound c =
+    let since = c.since.ensures ∙ ap since_at c.column_record.ensures.place in
+    let word = ap (λ (p : ℕ). get_or c.args.words.now p 0) since in
+    let bound = ap (λ (p : ℕ). get_or c.args.words.now p 0) c.high.ensures in
+    begins_late c.args.words.now c.args.block.0 c.loop-number.number
     (within c.args.words.now c.args.block.0 c.high.result.0 c.created_header.result.0 (created_header c.args.block.0) c.capacity.result c.high.ensures c.created_header.ensures c.capacity.ensures.words (omega (arith, c.if-bound-from.false, c.from.ensures)))
     (within c.args.words.now c.args.block.0 c.high.result.0 c.ended_header.result.0 (ended_header c.args.block.0) c.capacity-2.result c.high.ensures c.ended_header.ensures c.capacity-2.ensures.words (omega (arith, c.if-bound-from-2.false, c.from-2.ensures)))
     (omega (arith, c.loop-number-test.true, c.columns_of-number-end.ensures.count))
-    (over c.args.words.now c.args.block.0 c.high.result.0 c.codes_header.result.0 (codes_header (column_at c.args.block.0 c.loop-number.number)) c.capacity-in-loop-number.result c.high.ensures (c.codes_header.ensures ∙ ap codes_header c.column.ensures)
-    c.capacity-in-loop-number.ensures.words (omega (arith, c.if-bound-from-3.true, c.from-in-loop-number.ensures)))
+    (omega (arith, word, bound, c.if-first-bound.true))
 
 pub loop-number-preserved : goal.loop-number-preserved
 loop-number-preserved c =
-    below_more (λ x. get_or c.args.words.now (high_at c.args.block.0) 0 ≤ capacity c.args.words.now (codes_header (column_at c.args.block.0 x))) _ c.loop-number.invariant
-    (within c.args.words.now c.args.block.0 c.high.result.0 c.codes_header.result.0 (codes_header (column_at c.args.block.0 c.loop-number.number)) c.capacity-in-loop-number.result c.high.ensures (c.codes_header.ensures ∙ ap codes_header c.column.ensures)
-    c.capacity-in-loop-number.ensures.words (omega (arith, c.if-bound-from-3.false, c.from-in-loop-number.ensures)))
+    let since = c.since.ensures ∙ ap since_at c.column_record.ensures.place in
+    let word = ap (λ (p : ℕ). get_or c.args.words.now p 0) since in
+    let bound = ap (λ (p : ℕ). get_or c.args.words.now p 0) c.high.ensures in
+    below_more (λ x. get_or c.args.words.now (since_at (column_record c.args.words.now c.args.block.0 x)) 0 ≤ get_or c.args.words.now (high_at c.args.block.0) 0) _ c.loop-number.invariant
+    (omega (arith, word, bound, c.if-first-bound.false))
 
 pub returns : goal.returns
 returns c =

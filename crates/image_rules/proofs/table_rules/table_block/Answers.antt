@@ -17,4 +17,4 @@ pub returns-clause-block : goal.returns-clause-block
 returns-clause-block c =
     let place = rw c.unwrap.ensures at c.pointed_place.ensures.place in
     subst (IsTableBlock c.args.words.now) (sym (place ∙ ap (λ (p : ℕ). place_in (get_or c.args.words.now p 0)) c.table_slot.ensures))
-    (is_block c.args.words.now _ c.requires.segments (slot_pointer c.args.words.now c.requires.rule c.args.table c.requires.table c.requires.published))
+    (is_block c.args.words.now c.requires.rule c.args.table c.requires.table c.requires.published c.requires.one_or_more c.requires.segments)
