@@ -9,9 +9,9 @@ use Rattle.std.proofs.lemmas.List.FromFn.{length-range_with_len, get_or-range_wi
 use Rattle.std.proofs.lemmas.List.Kept.{AllPairs-cons, AllPairs-filter}
 use Rattle.mv_model.specs.State.{RowKey, CreatedRow, WriteSet, no_writes}
 use Rattle.image_layout.specs.Places.{below}
-use Rattle.image_layout.specs.Records.{columns_at, column_at, created_header, ended_header}
+use Rattle.image_layout.specs.Records.{created_header, ended_header}
 use Rattle.image_layout.specs.Arrays.{capacity, array_word}
-use Rattle.image_layout.specs.Tables.{table_count, table_block, columns_of}
+use Rattle.image_layout.specs.Tables.{table_count, table_block, columns_of, column_count, column_record}
 use Rattle.image_layout.specs.Objects.{last_commit}
 use Rattle.image_layout.proofs.Members.{below-Contains, Contains-below, Contains-here, Contains-there, Contains-flat_map, flat_map-Contains, Contains-map, map-Contains, Contains-filter, filter-Contains}
 use Rattle.shown_state.specs.LogicalState.{row_value, rows_stamped, created_row, commit_of, logical_state}
@@ -104,11 +104,11 @@ values_of words table row =
       length-map (columns_of words (table_block words table)) (row_value words row) ∙ columns,
       λ column d lt.
           get_or-map (row_value words row) (columns_of words (table_block words table)) column 0 d (omega (arith, lt, columns))
-          ∙ ap (row_value words row) (get_or-map-range_with_len (column_at (table_block words table)) 0 (get_or words (columns_at (table_block words table)) 0) column column 0 lt (omega arith)),
+          ∙ ap (row_value words row) (get_or-map-range_with_len (column_record words (table_block words table)) 0 (column_count words (table_block words table)) column column 0 lt (omega arith)),
     )
   where
-    slice_index_count : (words : List ℕ) (block : ℕ) → length (columns_of words block) ≡ get_or words (columns_at block) 0
-    slice_index_count words block = length-map (below (get_or words (columns_at block) 0)) (column_at block) ∙ length-range_with_len 0 (get_or words (columns_at block) 0)
+    slice_index_count : (words : List ℕ) (block : ℕ) → length (columns_of words block) ≡ column_count words block
+    slice_index_count words block = length-map (below (column_count words block)) (column_record words block) ∙ length-range_with_len 0 (column_count words block)
 
 pub created_have_their_values : CreatedHaveTheirValues
 created_have_their_values words number created commit is =

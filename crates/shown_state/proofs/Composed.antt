@@ -15,10 +15,10 @@ use Rattle.pm_model.proofs.Cuts.{finished-append, length-finished, plan-append, 
 use Rattle.pm_model.proofs.Alone.{IsPlan-size, cached-run, length-words_after, length-durable-run}
 use Rattle.pm_model.proofs.PlanLaw.{plan_begins, plan_plays_on, plan_survives_parts}
 use Rattle.image_layout.proofs.Faults.{first_fault-none}
-use Rattle.shown_state.specs.Mending.{Reached, after_parts, mend_if, mend, mendings, lane_mending, split_mending, slot_mending, text_mending, last_mending, undo_mending, close_mending, clear_mending, reached_by_opening}
+use Rattle.shown_state.specs.Mending.{Reached, after_parts, mend_if, mend, mendings, lane_mending, split_mending, slot_mending, text_mending, last_mending, undo_mending, close_mending, clear_mending, reached_by_opening, version_mending}
 use Rattle.shown_state.specs.Fits.{Fits}
 use Rattle.shown_state.specs.OpeningParts.{parts_of, opening_parts, IsImage, FitsStill, StepKeeps}
-use Rattle.shown_state.specs.StepLaws.{AreIdle, AreJoined, HaveNoNew, AreUndone, AreClosed, AreClear, StepsKeep, StepsMakeOpening, StepsKeepCuts, PartsRecover}
+use Rattle.shown_state.specs.StepLaws.{AreIdle, AreJoined, HaveNoNew, AreUndone, AreClosed, AreClear, AreMended, StepsKeep, StepsMakeOpening, StepsKeepCuts, PartsRecover}
 use Rattle.shown_state.specs.OpeningParts.{opening_plan}
 
 abbrev going : List ℕ → Reached
@@ -108,10 +108,10 @@ module _ (start : List ℕ) where
 
 module _ (keep : StepsKeep) (start : List ℕ) where
   abbrev Ends : List Mending → (List ℕ → Type 0) → Type 0
-  Ends list Q = (words : List ℕ) → Now start Q words → Opens (FitsStill start) (AreClear 16) list words
+  Ends list Q = (words : List ℕ) → Now start Q words → Opens (FitsStill start) AreMended list words
 
   abbrev clears : List Mending
-  clears = map clear_mending (below 16) ++ []
+  clears = map clear_mending (below 16) ++ version_mending ∷ []
 
   abbrev closes : List Mending
   closes = map close_mending (below 16) ++ clears
@@ -128,38 +128,41 @@ module _ (keep : StepsKeep) (start : List ℕ) where
   weaken : (Q S : List ℕ → Type 0) (words : List ℕ) → (Q words → S words) → Now start Q words → Now start S words
   weaken Q S words f now = record { image = now.image; still = now.still; has = f now.has }
 
+  version-step : Ends (version_mending ∷ []) (AreClear 16)
+  version-step words now = step start (AreClear 16) AreMended AreMended version_mending [] words now (λ image fits has. keep.version words image fits has)
+      (λ w done. opens-none (FitsStill start) AreMended w done.still done.has)
+
   clear-round : Ends clears (AreClear 0)
-  clear-round words now = round start AreClear (AreClear 16) clear_mending [] 16 (λ n w lt image fits has. keep.clears w n image lt fits has)
-      (λ w done. opens-none (FitsStill start) (AreClear 16) w done.still done.has) 0 16 refl words now
+  clear-round words now = round start AreClear AreMended clear_mending (version_mending ∷ []) 16 (λ n w lt image fits has. keep.clears w n image lt fits has)
+      (λ w done. version-step w done) 0 16 refl words now
 
   close-round : Ends closes (AreClosed 0)
-  close-round words now = round start AreClosed (AreClear 16) close_mending clears 16 (λ n w lt image fits has. keep.closes w n image lt fits has)
+  close-round words now = round start AreClosed AreMended close_mending clears 16 (λ n w lt image fits has. keep.closes w n image lt fits has)
       (λ w done. clear-round w (weaken (AreClosed 16) (AreClear 0) w (λ has. (has, λ object none. absurd (omega (arith, none)))) done)) 0 16 refl words now
 
   undo-round : Ends undos (AreUndone 0)
-  undo-round words now = round start AreUndone (AreClear 16) undo_mending closes 16 (λ n w lt image fits has. keep.undos w n image lt fits has)
+  undo-round words now = round start AreUndone AreMended undo_mending closes 16 (λ n w lt image fits has. keep.undos w n image lt fits has)
       (λ w done. close-round w (weaken (AreUndone 16) (AreClosed 0) w (λ has. (has, λ object none. absurd (omega (arith, none)))) done)) 0 16 refl words now
 
   text-round : Ends texts (HaveNoNew 0)
-  text-round words now = round start HaveNoNew (AreClear 16) text_mending (last_mending ∷ undos) 512 (λ n w lt image fits has. keep.texts w n image lt fits has)
-      (λ w done. step start (HaveNoNew 512) (AreUndone 0) (AreClear 16) last_mending undos w done (λ image fits has. keep.last w image fits has) undo-round) 0 512 refl words now
+  text-round words now = round start HaveNoNew AreMended text_mending (last_mending ∷ undos) 512 (λ n w lt image fits has. keep.texts w n image lt fits has)
+      (λ w done. step start (HaveNoNew 512) (AreUndone 0) AreMended last_mending undos w done (λ image fits has. keep.last w image fits has) undo-round) 0 512 refl words now
 
   split-round : Ends splits (AreJoined 0)
-  split-round words now = round start AreJoined (AreClear 16) split_mending (slot_mending ∷ texts) 512 (λ n w lt image fits has. keep.splits w n image lt fits has)
-      (λ w done. step start (AreJoined 512) (HaveNoNew 0) (AreClear 16) slot_mending texts w done (λ image fits has. keep.slot w image fits has) text-round) 0 512 refl words now
+  split-round words now = round start AreJoined AreMended split_mending (slot_mending ∷ texts) 512 (λ n w lt image fits has. keep.splits w n image lt fits has)
+      (λ w done. step start (AreJoined 512) (HaveNoNew 0) AreMended slot_mending texts w done (λ image fits has. keep.slot w image fits has) text-round) 0 512 refl words now
 
   lane-round : Ends (map lane_mending (below 16) ++ splits) (AreIdle 0)
-  lane-round words now = round start AreIdle (AreClear 16) lane_mending splits 16 (λ n w lt image fits has. keep.lanes w n image lt fits has)
+  lane-round words now = round start AreIdle AreMended lane_mending splits 16 (λ n w lt image fits has. keep.lanes w n image lt fits has)
       (λ w done. split-round w (weaken (AreIdle 16) (AreJoined 0) w (λ has. (has, All-nil _)) done)) 0 16 refl words now
 
   mendings-are : map lane_mending (below 16) ++ splits ≡ mendings
-  mendings-are = ap (λ (tail : List Mending). map lane_mending (below 16) ++ map split_mending (below 512) ++ slot_mending ∷ [] ++ map text_mending (below 512) ++ last_mending ∷ [] ++ map undo_mending (below 16) ++ map close_mending (below 16) ++ tail)
-      (append-nil (map clear_mending (below 16)))
+  mendings-are = refl
 
 pub steps_make_opening : StepsMakeOpening
 unfolding opening_parts reached_by_opening
 steps_make_opening keep words image fits =
-    let all = subst (λ (list : List Mending). Opens (FitsStill words) (AreClear 16) list words) (mendings-are keep words)
+    let all = subst (λ (list : List Mending). Opens (FitsStill words) AreMended list words) (mendings-are keep words)
     (lane-round keep words words (record { image = image; still = record { fits = fits; shows = refl }; has = λ lane none. absurd (omega (arith, none)) })) in
     record { plan = all.plan; reaches = all.reaches; goes_on = all.goes_on; cuts = all.cuts; end = all.end }
 

@@ -2,22 +2,22 @@
 use Rattle.std.proofs.Common.{◌≡◌, ◌≢◌, ◌⊎◌, ⊎_elim, ℕ, suc, ◌+◌, ◌-◌, ◌*◌, ◌<◌, ◌≤◌, max, min, Bool, true, false, not, ◌&&◌, ◌||◌, eqb, leb, ltb, List, [], ◌∷◌, ◌++◌, length, get_or, map, refl, sym, ◌∙◌, ap, subst, arith}
 use Rattle.std.specs.Prelude.{All, AllPairs, Contains, filter, fold}
 use Rattle.std.specs.List.{flat_map, list_all, list_any, range_with_len}
-use Rattle.std.proofs.lemmas.Bool.{both_ways, cases_Bool, cases_eq, eqb-true, eq-eqb, ne_eqb, ltb-true, lt-ltb, leb-true, le-leb, not-true, and_parts, and_from, or_left, or_right}
+use Rattle.std.proofs.lemmas.Bool.{both_ways, cases_Bool, cases_eq, cond-true, eqb-true, eq-eqb, ne_eqb, ltb-true, lt-ltb, leb-true, le-leb, not-true, and_parts, and_from, or_left, or_right}
 use Rattle.std.proofs.lemmas.List.{length-append, length-map, map-append, append_assoc, get_or_append_left, take_all}
 use Rattle.std.proofs.lemmas.List.Elements.{All-nil, All-cons, All-contains, All-append, Contains-append_cases, Contains-get_or}
 use Rattle.std.proofs.lemmas.List.FromFn.{length-range_with_len, get_or-range_with_len}
-use Rattle.image_layout.specs.Fixed.{commit_word_at, lane_op_at, last_at, state_at}
+use Rattle.image_layout.specs.Fixed.{commit_word_at, lane_op_at, last_at, state_at, version_at}
 use Rattle.image_layout.specs.Pointer.{pointer_word}
 use Rattle.image_layout.specs.Places.{below, place_in, is_pointer}
 use Rattle.image_layout.specs.Records.{created_header, dictionary_header, ended_header, codes_header, high_at, new_leaf_at, split_leaf_at}
 use Rattle.image_layout.specs.Arrays.{capacity, place_of, array_word}
 use Rattle.image_layout.specs.Blocks.{Block, live_blocks}
 use Rattle.image_layout.specs.Checks.{Check, check, Keeps}
-use Rattle.image_layout.specs.Tables.{table_count, table_block, table_blocks, columns_of, all_columns, is_text}
+use Rattle.image_layout.specs.Tables.{table_count, table_block, table_blocks, columns_of, columns_with, all_columns, is_text, since_of}
 use Rattle.image_layout.specs.Objects.{entry_places, last_commit}
 use Rattle.image_layout.specs.Trees.{dictionary_length}
 use Rattle.image_layout.specs.EntryRules.{is_among, text_columns}
-use Rattle.image_layout.specs.SoundRules.{zero_check, idle_rule, split_log_rule, closed_rule, distinct_checks, single_owner_rule, owned_rule, spare_slots, spare_slot_rule, no_commit, is_commit, is_created, is_ended, row_check, row_checks, row_headers, stamp_checks, stamp_rule, row_code_check, committed_rows, row_code_rule, owner_rule, IsSound}
+use Rattle.image_layout.specs.SoundRules.{zero_check, idle_rule, split_log_rule, closed_rule, distinct_checks, single_owner_rule, owned_rule, spare_slots, spare_slot_rule, no_commit, is_commit, is_created, is_ended, row_check, row_checks, is_row_bound, stamp_checks, stamp_rule, row_code_check, committed_rows, row_code_rule, latest_version_rule, owner_rule, IsSound}
 use Rattle.image_layout.specs.Owners.{Owner, word_of, owns_block, owner_words, leaf_owner, new_leaf_owners, next_table_slots, next_text_slots, unfinished_slots, firm_owners, owner_places, is_replaced_in, is_replaced, NameApart, busy_lanes, lane_block}
 use Rattle.image_layout.proofs.Faults.{Holds, mapped_hold}
 use Rattle.image_layout.proofs.Members.{Contains-below, Contains-here, Contains-there, Contains-cons, Contains-nil, Contains-flat_map, flat_map-Contains, Contains-map, map-Contains, Contains-filter}
@@ -320,14 +320,21 @@ module _ (words : List ℕ) (fits : Fits words) (clear : AreClear 16 words) wher
     below_high : (row : ℕ) → row < used_up words table → ltb row high ≡ true
     below_high row lt = let same = high_is table in lt-ltb row high (omega (arith, lt, same))
 
-    high_fits : list_all (λ header. leb high (capacity words header)) (row_headers words block) ≡ true
-    high_fits = let room = rows_fit.room in let same = high_is table in all_true (row_headers words block)
-        (λ header is. let fit = All-contains (λ (h : ℕ). used_up words table ≤ capacity words h) (row_headers words block) header room is in le-leb high (capacity words header) (omega (arith, fit, same)))
+    high_fits : is_row_bound words block high ≡ true
+    high_fits =
+        let same = high_is table in
+        let first = rows_fit.created_room in
+        let last = rows_fit.ended_room in
+        let begun = rows_fit.begun in
+        and_from (leb high (capacity words (created_header block)) && leb high (capacity words (ended_header block))) (list_all (λ column. leb (since_of words column) high) (columns_of words block))
+        (and_from (leb high (capacity words (created_header block))) (leb high (capacity words (ended_header block)))
+        (le-leb high (capacity words (created_header block)) (omega (arith, first, same))) (le-leb high (capacity words (ended_header block)) (omega (arith, last, same))))
+        (all_true (columns_of words block) (λ column is. le-leb (since_of words column) high (All-contains (λ (c : ℕ). since_of words c ≤ high) (columns_of words block) column begun is)))
       where
-        all_true : (headers : List ℕ) → ((header : ℕ) → Contains headers header → leb high (capacity words header) ≡ true) → list_all (λ header. leb high (capacity words header)) headers ≡ true
+        all_true : (columns : List ℕ) → ((column : ℕ) → Contains columns column → leb (since_of words column) high ≡ true) → list_all (λ column. leb (since_of words column) high) columns ≡ true
         all_true [] each = refl
-        all_true (header ∷ headers) each = and_from (leb high (capacity words header)) (list_all (λ h. leb high (capacity words h)) headers) (each header (Contains-here header headers))
-            (all_true headers (λ other is. each other (Contains-there header other headers is)))
+        all_true (column ∷ columns) each = and_from (leb (since_of words column) high) (list_all (λ c. leb (since_of words c) high) columns) (each column (Contains-here column columns))
+            (all_true columns (λ other is. each other (Contains-there column other columns is)))
 
     commit_is : (stamp : ℕ) → 1 ≤ stamp → stamp ≤ last_commit words → is_commit words stamp ≡ true
     commit_is stamp some most = let last = last_is in and_from (leb 1 stamp) (leb stamp (get_or words last_at 0)) (le-leb 1 stamp some) (le-leb stamp (get_or words last_at 0) (omega (arith, most, last)))
@@ -372,7 +379,7 @@ module _ (words : List ℕ) (fits : Fits words) (clear : AreClear 16 words) wher
 
     pub table_stamps : All Holds (stamp_checks words block)
     unfolding stamp_checks
-    table_stamps = All-cons Holds (check (high_at block) (list_all (λ header. leb high (capacity words header)) (row_headers words block)))
+    table_stamps = All-cons Holds (check (high_at block) (is_row_bound words block high))
         (flat_map (row_checks words block) (below (max (capacity words (created_header block)) (capacity words (ended_header block))))) high_fits
         (each_row (below (max (capacity words (created_header block)) (capacity words (ended_header block)))))
       where
@@ -380,10 +387,17 @@ module _ (words : List ℕ) (fits : Fits words) (clear : AreClear 16 words) wher
         each_row [] = All-nil Holds
         each_row (row ∷ rows) = All-append Holds (row_checks words block row) (flat_map (row_checks words block) rows) (one_row row) (each_row rows)
 
-    pub table_codes : All Holds (flat_map (λ row. map (row_code_check words row) (columns_of words block)) (committed_rows words block))
+    pub table_codes : All Holds (flat_map (λ row. map (row_code_check words row) (columns_with words block row)) (committed_rows words block))
     table_codes = each_row (committed_rows words block) (λ row is. is)
       where
-        one_code : (row : ℕ) → Contains (committed_rows words block) row → All Holds (map (row_code_check words row) (columns_of words block))
+        one_check : (row column : ℕ) → HasValue words row column → Holds (row_code_check words row column)
+        one_check row column value =
+            let header = codes_header column in
+            let place = check (place_of words header row) (ltb (array_word words header row) (dictionary_length words column)) in
+            subst Holds (sym (cond-true (ltb row (capacity words header)) place (check header false) (lt-ltb row (capacity words header) value.published)))
+            (lt-ltb (array_word words header row) (dictionary_length words column) value.known)
+
+        one_code : (row : ℕ) → Contains (committed_rows words block) row → All Holds (map (row_code_check words row) (columns_with words block row))
         one_code row is =
             let parts = Contains-filter (λ r. is_commit words (born r)) (below (min high (capacity words (created_header block)))) row is in
             let lt = Contains-below (min high (capacity words (created_header block))) row parts.0 in
@@ -392,12 +406,12 @@ module _ (words : List ℕ) (fits : Fits words) (clear : AreClear 16 words) wher
             let most = leb-true (born row) (get_or words last_at 0) both.1 in
             let last = last_is in
             let values = rows_fit.values row (omega (arith, lt)) some (omega (arith, most, last)) in
-            mapped_hold (row_code_check words row) (columns_of words block) (λ column among_columns.
-            let value = All-contains (HasValue words row) (columns_of words block) column values among_columns in lt-ltb (array_word words (codes_header column) row) (dictionary_length words column) value.known)
+            mapped_hold (row_code_check words row) (columns_with words block row) (λ column among_columns.
+            one_check row column (All-contains (HasValue words row) (columns_with words block row) column values among_columns))
 
-        each_row : (rows : List ℕ) → ((row : ℕ) → Contains rows row → Contains (committed_rows words block) row) → All Holds (flat_map (λ row. map (row_code_check words row) (columns_of words block)) rows)
+        each_row : (rows : List ℕ) → ((row : ℕ) → Contains rows row → Contains (committed_rows words block) row) → All Holds (flat_map (λ row. map (row_code_check words row) (columns_with words block row)) rows)
         each_row [] within = All-nil Holds
-        each_row (row ∷ rows) within = All-append Holds (map (row_code_check words row) (columns_of words block)) (flat_map (λ r. map (row_code_check words r) (columns_of words block)) rows)
+        each_row (row ∷ rows) within = All-append Holds (map (row_code_check words row) (columns_with words block row)) (flat_map (λ r. map (row_code_check words r) (columns_with words block r)) rows)
             (one_code row (within row (Contains-here row rows))) (each_row rows (λ other is. within other (Contains-there row other rows is)))
 
   each_table : (checks : ℕ → List Check) → ((table : ℕ) → table < table_count words → All Holds (checks (table_block words table))) → All Holds (flat_map checks (table_blocks words))
@@ -414,10 +428,11 @@ module _ (words : List ℕ) (fits : Fits words) (clear : AreClear 16 words) wher
 
   row_codes : Keeps words row_code_rule
   unfolding row_code_rule
-  row_codes = record { checks = each_table (λ block. flat_map (λ row. map (row_code_check words row) (columns_of words block)) (committed_rows words block)) (λ table lt. table_codes table lt) }
+  row_codes = record { checks = each_table (λ block. flat_map (λ row. map (row_code_check words row) (columns_with words block row)) (committed_rows words block)) (λ table lt. table_codes table lt) }
 
-  pub end_is_sound : IsSound words
-  end_is_sound = record {
+  pub end_is_sound : get_or words version_at 0 ≡ 2 → IsSound words
+  unfolding latest_version_rule
+  end_is_sound version = record {
     entry = fits.entry;
     idle = idle;
     split_logs = split_logs;
@@ -434,4 +449,5 @@ module _ (words : List ℕ) (fits : Fits words) (clear : AreClear 16 words) wher
     row_codes = row_codes;
     given_back = fits.given_back;
     names = fits.names;
+    latest = record { checks = All-cons Holds (check version_at (eqb (get_or words version_at 0) 2)) [] (eq-eqb (get_or words version_at 0) 2 version) (All-nil Holds) };
   }

@@ -10,7 +10,7 @@ use Rattle.image_layout.proofs.FreshImage.{fresh_words_is}
 
 -- the first segment: four reserved pages, the magic number and the version
 unfoldable pub first_segment : List ℕ
-first_segment = 8 ∷ 8 ∷ 8 ∷ 8 ∷ replicate {A = ℕ} 508 0 ++ magic_number ∷ 1 ∷ replicate {A = ℕ} 32254 0
+first_segment = 8 ∷ 8 ∷ 8 ∷ 8 ∷ replicate {A = ℕ} 508 0 ++ magic_number ∷ 2 ∷ replicate {A = ℕ} 32254 0
 
 -- another segment: its first page is reserved
 unfoldable pub other_segment : List ℕ
@@ -80,10 +80,10 @@ plain_word w a b c d =
 
 first_low : (r : ℕ) → r < 508 → get_or first_segment (suc (suc (suc (suc r)))) 0 ≡ 0
 unfolding first_segment
-first_low r lt = get_or_append_left (replicate {A = ℕ} 508 0) (magic_number ∷ 1 ∷ replicate {A = ℕ} 32254 0) 0 r (omega (arith)) ∙ get_or-replicate 508 r 0 0 (omega arith)
+first_low r lt = get_or_append_left (replicate {A = ℕ} 508 0) (magic_number ∷ 2 ∷ replicate {A = ℕ} 32254 0) 0 r (omega (arith)) ∙ get_or-replicate 508 r 0 0 (omega arith)
 
 first_words : List ℕ
-first_words = 8 ∷ 8 ∷ 8 ∷ 8 ∷ replicate {A = ℕ} 508 0 ++ magic_number ∷ 1 ∷ []
+first_words = 8 ∷ 8 ∷ 8 ∷ 8 ∷ replicate {A = ℕ} 508 0 ++ magic_number ∷ 2 ∷ []
 
 first_split : first_segment ≡ first_words ++ replicate {A = ℕ} 32254 0
 unfolding first_segment first_words
@@ -104,7 +104,7 @@ first_magic : get_or first_segment 512 0 ≡ magic_number
 unfolding first_segment
 first_magic = refl
 
-first_version : get_or first_segment 513 0 ≡ 1
+first_version : get_or first_segment 513 0 ≡ 2
 unfolding first_segment
 first_version = refl
 

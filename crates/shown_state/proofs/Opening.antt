@@ -24,8 +24,8 @@ use Rattle.image_layout.proofs.Members.{below-Contains, Contains-below, Contains
 use Rattle.shown_state.specs.LogicalState.{logical_state}
 use Rattle.pm_model.specs.Plans.{Part, store}
 use Rattle.pm_model.specs.Needed.{is_there, is_stored_later, needed_stores, needed_parts, Mending}
-use Rattle.shown_state.proofs.Sounds.{sound_logs}
-use Rattle.shown_state.specs.Mending.{lane_mending, at_column, split_parts, split_mending, free_table, slot_mending, free_text, text_mending, last_mending, undo_mending, close_mending, clear_mending, mendings, mend, reached_by_opening}
+use Rattle.shown_state.proofs.Sounds.{is_latest, sound_logs}
+use Rattle.shown_state.specs.Mending.{lane_mending, at_column, split_parts, split_mending, free_table, slot_mending, free_text, text_mending, last_mending, undo_mending, close_mending, clear_mending, version_mending, mendings, mend, reached_by_opening}
 use Rattle.shown_state.specs.OpeningLaws.{FormattedIsRecoverable, FormattedShowsNothing, SoundIsRecoverable, SoundIsRecovered}
 use Rattle.shown_state.proofs.FormattedImage.{formatted_is_sound}
 use Rattle.image_layout.specs.Records.{split_leaf_at, new_leaf_at, dictionary_header}
@@ -192,6 +192,9 @@ clear_idle words sound object lt =
         eq-eqb (get_or words at 0) 0 (object_is_closed words sound object at lt
         (Contains-there (state_at object) at (commit_word_at object ∷ places) (Contains-there (commit_word_at object) at places is)))
 
+version_idle : (words : List ℕ) → IsSound words → IsIdle words version_mending
+version_idle words sound = let e = is_latest words sound in rw e refl
+
 all_idle : (words : List ℕ) → IsSound words → All (IsIdle words) mendings
 all_idle words sound =
     let P = IsIdle words in
@@ -203,7 +206,9 @@ all_idle words sound =
     let clears = map clear_mending (below 16) in
     let one : List Mending = slot_mending ∷ [] in
     let last : List Mending = last_mending ∷ [] in
-    All-append P (lanes ++ splits ++ one ++ texts ++ last ++ undos ++ closes) clears
+    let version : List Mending = version_mending ∷ [] in
+    All-append P (lanes ++ splits ++ one ++ texts ++ last ++ undos ++ closes ++ clears) version
+    (All-append P (lanes ++ splits ++ one ++ texts ++ last ++ undos ++ closes) clears
     (All-append P (lanes ++ splits ++ one ++ texts ++ last ++ undos) closes
     (All-append P (lanes ++ splits ++ one ++ texts ++ last) undos
     (All-append P (lanes ++ splits ++ one ++ texts) last
@@ -215,7 +220,8 @@ all_idle words sound =
     (All-cons P last_mending [] (last_idle words sound) (All-nil P)))
     (all_below P undo_mending 16 (undo_idle words sound)))
     (all_below P close_mending 16 (close_idle words sound)))
-    (all_below P clear_mending 16 (clear_idle words sound))
+    (all_below P clear_mending 16 (clear_idle words sound)))
+    (All-cons P version_mending [] (version_idle words sound) (All-nil P))
 
 pub sound_is_recovered : SoundIsRecovered
 unfolding reached_by_opening

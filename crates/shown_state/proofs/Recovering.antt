@@ -11,4 +11,4 @@ pub steps_recover : StepsRecover
 steps_recover keep words image fits =
     let opens = steps_make_opening keep words image fits in
     let still = subst (FitsStill words) opens.reaches (each_cut-end (FitsStill words) (opening_parts words) words opens.cuts) in
-    record { entry = fits.entry; sound = end_is_sound (recovered words) still.fits opens.end; shown = still.shows; apart = fits.apart; logs = fits.logs }
+    record { entry = fits.entry; sound = end_is_sound (recovered words) still.fits opens.end.0 opens.end.1; shown = still.shows; apart = fits.apart; logs = fits.logs }

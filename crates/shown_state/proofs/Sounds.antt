@@ -2,21 +2,21 @@
 use Rattle.std.proofs.Common.{◌≡◌, inl, inr, ⊎_elim, ℕ, ◌+◌, ◌-◌, ◌<◌, ◌≤◌, max, min, Bool, true, false, not, ◌&&◌, ◌||◌, eqb, leb, ltb, List, [], ◌∷◌, ◌++◌, get_or, map, refl, sym, ◌∙◌, ap, subst, arith}
 use Rattle.std.specs.Prelude.{All, Contains, fold}
 use Rattle.std.specs.List.{flat_map, list_all, range_with_len}
-use Rattle.std.proofs.lemmas.Bool.{both_ways, cases_Bool, eqb-true, eq-eqb, ltb-true, lt-ltb, leb-true, le-leb, not-true, and_parts, and_from, or_cases}
+use Rattle.std.proofs.lemmas.Bool.{both_ways, cases_Bool, cond-false, cond-true, eqb-true, eq-eqb, ltb-true, lt-ltb, leb-true, le-leb, ne_eqb, not-true, and_parts, and_from, or_cases}
 use Rattle.std.proofs.lemmas.List.Elements.{All-contains, All-head, All-tail, Contains-append_cases, Contains-append_left, Contains-append_right, Contains-get_or}
 use Rattle.std.proofs.lemmas.List.FromFn.{length-range_with_len, get_or-range_with_len}
-use Rattle.image_layout.specs.Fixed.{commit_word_at, lane_op_at, last_at, state_at}
+use Rattle.image_layout.specs.Fixed.{commit_word_at, lane_op_at, last_at, state_at, version_at}
 use Rattle.image_layout.specs.Pointer.{pointer_word}
 use Rattle.image_layout.specs.Places.{below}
 use Rattle.image_layout.specs.Records.{codes_header, created_header, dictionary_header, ended_header, high_at, new_leaf_at, split_leaf_at}
 use Rattle.image_layout.specs.Arrays.{capacity, place_of, array_word}
 use Rattle.image_layout.specs.Blocks.{Block, live_blocks}
 use Rattle.image_layout.specs.Checks.{Check, check}
-use Rattle.image_layout.specs.Tables.{table_count, table_block, table_blocks, columns_of, all_columns, is_text}
+use Rattle.image_layout.specs.Tables.{table_count, table_block, table_blocks, columns_of, columns_with, all_columns, is_first_version, is_text, since_of}
 use Rattle.image_layout.specs.Objects.{is_open, open_commit, entry_places, last_commit}
 use Rattle.image_layout.specs.Trees.{dictionary_length, is_about_to_link}
 use Rattle.image_layout.specs.EntryRules.{is_among, text_columns}
-use Rattle.image_layout.specs.SoundRules.{zero_check, idle_rule, split_log_rule, closed_rule, owned_rule, spare_slots, spare_slot_rule, no_commit, is_commit, is_created, is_ended, row_check, row_checks, row_headers, stamp_checks, stamp_rule, row_code_check, committed_rows, row_code_rule, IsSound}
+use Rattle.image_layout.specs.SoundRules.{zero_check, idle_rule, split_log_rule, closed_rule, owned_rule, spare_slots, spare_slot_rule, no_commit, is_commit, is_created, is_ended, row_check, row_checks, is_row_bound, stamp_checks, stamp_rule, row_code_check, committed_rows, row_code_rule, latest_version_rule, IsSound}
 use Rattle.image_layout.specs.Owners.{Owner, word_of, owner_words, new_leaf_owners, next_table_slots, next_text_slots, unfinished_slots, firm_owners, owner_places, busy_lanes, lane_block}
 use Rattle.image_layout.proofs.Faults.{Holds, mapped_hold}
 use Rattle.image_layout.proofs.Members.{Contains-below, below-Contains, Contains-here, Contains-there, Contains-cons, Contains-nil, Contains-flat_map, flat_map-Contains, Contains-map, map-Contains, Contains-filter, filter-Contains}
@@ -27,6 +27,15 @@ use Rattle.shown_state.specs.Logs.{LaneFits, SlotFits, SplitFits, LogsFit}
 use Rattle.shown_state.specs.Fits.{spoken_for, later_slots, later_slot_rule, is_undecided, undecided_bound, used_up, CreatorFits, EnderFits, HasValue, RowsFit}
 use Rattle.shown_state.specs.StepLaws.{SoundFits}
 use Rattle.shown_state.proofs.Ends.{none_filtered}
+
+-- a sound image is of version 2
+pub is_latest : (words : List ℕ) → IsSound words → is_first_version words ≡ false
+unfolding latest_version_rule
+is_latest words sound =
+    let rule = sound.latest in
+    let is : eqb (get_or words version_at 0) 2 ≡ true = All-head Holds (check version_at (eqb (get_or words version_at 0) 2)) [] rule.checks in
+    let two = eqb-true (get_or words version_at 0) 2 is in
+    ne_eqb (get_or words version_at 0) 1 (λ one. omega (arith, one, two))
 
 module _ (words : List ℕ) (sound : IsSound words) where
   zero_at : (places : List ℕ) (at : ℕ) → All Holds (map (zero_check words) places) → Contains places at → get_or words at 0 ≡ 0
@@ -179,19 +188,28 @@ module _ (words : List ℕ) (sound : IsSound words) where
     abbrev rows : List ℕ
     rows = below (max (capacity words (created_header block)) (capacity words (ended_header block)))
 
-    reaches : (header : ℕ) → Contains (row_headers words block) header → high ≤ capacity words header
+    bound_holds : is_row_bound words block high ≡ true
     unfolding stamp_checks
-    reaches header is = each (row_headers words block) header (All-head Holds (check (high_at block) (list_all (λ h. leb high (capacity words h)) (row_headers words block))) (flat_map (row_checks words block) rows) checks) is
+    bound_holds = All-head Holds (check (high_at block) (is_row_bound words block high)) (flat_map (row_checks words block) rows) checks
+
+    bound_parts : (leb high (capacity words (created_header block)) && leb high (capacity words (ended_header block)) ≡ true) × (list_all (λ column. leb (since_of words column) high) (columns_of words block) ≡ true)
+    bound_parts = and_parts (leb high (capacity words (created_header block)) && leb high (capacity words (ended_header block))) (list_all (λ column. leb (since_of words column) high) (columns_of words block)) bound_holds
+
+    reach_parts : (leb high (capacity words (created_header block)) ≡ true) × (leb high (capacity words (ended_header block)) ≡ true)
+    reach_parts = and_parts (leb high (capacity words (created_header block))) (leb high (capacity words (ended_header block))) bound_parts.0
+
+    column_begun : (column : ℕ) → Contains (columns_of words block) column → since_of words column ≤ high
+    column_begun column is = each (columns_of words block) bound_parts.1 is
       where
-        each : (headers : List ℕ) (header : ℕ) → list_all (λ h. leb high (capacity words h)) headers ≡ true → Contains headers header → high ≤ capacity words header
-        each [] header all is = absurd (Contains-nil header is)
-        each (h ∷ headers) header all is =
-            let parts = and_parts (leb high (capacity words h)) (list_all (λ o. leb high (capacity words o)) headers) all in
-            ⊎_elim (λ (e : h ≡ header). subst (λ (o : ℕ). high ≤ capacity words o) e (leb-true high (capacity words h) parts.0)) (λ there. each headers header parts.1 there) (Contains-cons h header headers is)
+        each : (columns : List ℕ) → list_all (λ c. leb (since_of words c) high) columns ≡ true → Contains columns column → since_of words column ≤ high
+        each [] all is = absurd (Contains-nil column is)
+        each (c ∷ columns) all is =
+            let parts = and_parts (leb (since_of words c) high) (list_all (λ o. leb (since_of words o) high) columns) all in
+            ⊎_elim (λ (e : c ≡ column). subst (λ (o : ℕ). since_of words o ≤ high) e (leb-true (since_of words c) high parts.0)) (λ there. each columns parts.1 there) (Contains-cons c column columns is)
 
     row_holds : (row : ℕ) (c : Check) → Contains rows row → Contains (row_checks words block row) c → Holds c
     unfolding stamp_checks
-    row_holds row c is one = All-contains Holds (flat_map (row_checks words block) rows) c (All-tail Holds (check (high_at block) (list_all (λ h. leb high (capacity words h)) (row_headers words block))) (flat_map (row_checks words block) rows) checks)
+    row_holds row c is one = All-contains Holds (flat_map (row_checks words block) rows) c (All-tail Holds (check (high_at block) (is_row_bound words block high)) (flat_map (row_checks words block) rows) checks)
         (flat_map-Contains (row_checks words block) rows row c is one)
 
     abbrev born : ℕ → ℕ
@@ -247,7 +265,20 @@ module _ (words : List ℕ) (sound : IsSound words) where
         })))
         (or_cases (eqb (dies row) 0) (ltb row high && is_commit words (born row) && is_commit words (dies row) && leb (born row) (dies row)) (dies_holds row lt))
 
-    value_is : (row column : ℕ) → row < capacity words (created_header block) → 1 ≤ born row → born row ≤ last_commit words → Contains (columns_of words block) column → HasValue words row column
+    code_is : (row column : ℕ) → Holds (row_code_check words row column) → HasValue words row column
+    code_is row column holds =
+        let header = codes_header column in
+        let size = dictionary_length words column in
+        let place = check (place_of words header row) (ltb (array_word words header row) size) in
+        ⊎_elim
+        (λ (hit : ltb row (capacity words header) ≡ true).
+        let known = subst Holds (cond-true (ltb row (capacity words header)) place (check header false) hit) holds in
+        record { published = ltb-true row (capacity words header) hit; known = ltb-true (array_word words header row) size known })
+        (λ (miss : ltb row (capacity words header) ≡ false).
+        absurd (both_ways false refl (subst Holds (cond-false (ltb row (capacity words header)) place (check header false) miss) holds)))
+        (cases_Bool (ltb row (capacity words header)))
+
+    value_is : (row column : ℕ) → row < capacity words (created_header block) → 1 ≤ born row → born row ≤ last_commit words → Contains (columns_with words block row) column → HasValue words row column
     unfolding row_code_rule
     value_is row column lt some most is =
         let last = last_is in
@@ -258,22 +289,22 @@ module _ (words : List ℕ) (sound : IsSound words) where
         let commit : is_commit words (born row) ≡ true = and_from (leb 1 (born row)) (leb (born row) (get_or words last_at 0)) (le-leb 1 (born row) some) (le-leb (born row) (get_or words last_at 0) (omega (arith, most, last))) in
         let row_in : Contains (committed_rows words block) row = filter-Contains (λ r. is_commit words (born r)) (below (min high (capacity words (created_header block)))) row
         (below-Contains (min high (capacity words (created_header block))) row (omega (arith, low, lt))) commit in
-        let codes : ℕ → List Check = λ r. map (row_code_check words r) (columns_of words block) in
+        let codes : ℕ → List Check = λ r. map (row_code_check words r) (columns_with words block r) in
         let rule = sound.row_codes in
-        let known = All-contains Holds (flat_map (λ b. flat_map (λ r. map (row_code_check words r) (columns_of words b)) (committed_rows words b)) (table_blocks words)) (row_code_check words row column) rule.checks
-        (flat_map-Contains (λ b. flat_map (λ r. map (row_code_check words r) (columns_of words b)) (committed_rows words b)) (table_blocks words) block (row_code_check words row column) block_in
-        (flat_map-Contains codes (committed_rows words block) row (row_code_check words row column) row_in (map-Contains (row_code_check words row) (columns_of words block) column is))) in
-        let reach = reaches (codes_header column) (Contains-there (created_header block) (codes_header column) (ended_header block ∷ map codes_header (columns_of words block))
-        (Contains-there (ended_header block) (codes_header column) (map codes_header (columns_of words block)) (map-Contains codes_header (columns_of words block) column is))) in
-        record { published = omega (arith, low, reach); known = ltb-true (array_word words (codes_header column) row) (dictionary_length words column) known }
+        let known = All-contains Holds (flat_map (λ b. flat_map (λ r. map (row_code_check words r) (columns_with words b r)) (committed_rows words b)) (table_blocks words)) (row_code_check words row column) rule.checks
+        (flat_map-Contains (λ b. flat_map (λ r. map (row_code_check words r) (columns_with words b r)) (committed_rows words b)) (table_blocks words) block (row_code_check words row column) block_in
+        (flat_map-Contains codes (committed_rows words block) row (row_code_check words row column) row_in (map-Contains (row_code_check words row) (columns_with words block row) column is))) in
+        code_is row column known
 
     pub sound_rows : RowsFit words table
     sound_rows = record {
       rows = let none = bound_zero table in let undecided = undecided_zero table in omega (arith, none, undecided);
-      room = all_from (λ (header : ℕ). used_up words table ≤ capacity words header) (row_headers words block) (λ header is. let reach = reaches header is in let used = used_is in omega (arith, reach, used));
+      created_room = let reach = leb-true high (capacity words (created_header block)) reach_parts.0 in let used = used_is in omega (arith, reach, used);
+      ended_room = let reach = leb-true high (capacity words (ended_header block)) reach_parts.1 in let used = used_is in omega (arith, reach, used);
+      begun = all_from (λ (column : ℕ). since_of words column ≤ high) (columns_of words block) column_begun;
       created = creator_fits;
       ended = ender_fits;
-      values = λ row lt some most. all_from (HasValue words row) (columns_of words block) (λ column is. value_is row column lt some most is);
+      values = λ row lt some most. all_from (HasValue words row) (columns_with words block row) (λ column is. value_is row column lt some most is);
     }
 
   pub sound_later : All Holds (map (zero_check words) (flat_map (later_slots words) (text_columns words)))
@@ -303,4 +334,5 @@ sound_fits words image sound = record {
   given_back = sound.given_back;
   names = sound.names;
   rows = λ table lt. sound_rows words sound table lt;
+  first = λ version table lt. absurd (both_ways (is_first_version words) (is_latest words sound) version);
 }

@@ -5,4 +5,4 @@ use Rattle.shown_state.proofs.Sounds.{sound_fits}
 use Rattle.shown_state.proofs.laws.fits_law.Goals as goal
 
 pub returns : goal.returns
-returns c = record { opening = steps_make_opening; words = parts_recover; cuts = steps_keep_cuts; end = end_is_sound; recovers = steps_recover; sound = sound_fits }
+returns c = record { opening = steps_make_opening; words = parts_recover; cuts = steps_keep_cuts; end = λ words fits mended. end_is_sound words fits mended.0 mended.1; recovers = steps_recover; sound = sound_fits }
