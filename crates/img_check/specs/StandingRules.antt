@@ -1,7 +1,7 @@
 -- The numbered rules of an image at rest, as far as they stand. They are tried in this order.
 use Rattle.std.specs.Prelude.{List, [], ◌∷◌, ◌++◌}
 use Rattle.image_layout.specs.Checks.{Numbered, numbered}
-use Rattle.image_layout.specs.SoundRules.{idle_rule, closed_rule, stamp_rule, given_back_rule, distinct_name_rule}
+use Rattle.image_layout.specs.SoundRules.{idle_rule, closed_rule, stamp_rule, given_back_rule, distinct_name_rule, latest_version_rule}
 use Rattle.image_rules.specs.Parts.{next_slot_rule}
 use Rattle.image_rules.specs.NumberedRules.{entry_rules}
 use Rattle.image_rules.specs.BuiltOwners.{built_owner_rule, built_single_owner_rule, built_owned_rule}
@@ -18,9 +18,10 @@ rules_without_memory = entry_rules ++ closing_rules
 abbrev pub owner_rules : List Numbered
 owner_rules = numbered 19 built_owner_rule ∷ numbered 20 built_single_owner_rule ∷ numbered 21 built_owned_rule ∷ []
 
--- stamps, pages that were given back, and names
+-- stamps, pages that were given back, names, and the version
 abbrev pub content_rules : List Numbered
-content_rules = numbered 27 stamp_rule ∷ numbered 29 given_back_rule ∷ numbered 30 distinct_name_rule ∷ []
+content_rules =
+    numbered 27 stamp_rule ∷ numbered 29 given_back_rule ∷ numbered 30 distinct_name_rule ∷ numbered 31 latest_version_rule ∷ []
 
 abbrev pub sound_rules : List Numbered
 sound_rules = rules_without_memory ++ owner_rules ++ content_rules

@@ -9,17 +9,18 @@ ghost use Rattle.img_check.specs.StandingRules.{closing_rules, content_rules, ow
 use crate::error::CheckError;
 use image_rules::{
     RuleFault, closed_fault, distinct_name_fault, entry_fault, given_back_fault, idle_fault,
-    next_slot_fault, owned_fault, owner_fault, single_owner_fault, stamp_fault,
+    latest_version_fault, next_slot_fault, owned_fault, owner_fault, single_owner_fault,
+    stamp_fault,
 };
 use pm_model::NoMemory;
 use std::alloc::Global;
 
 /// Tries the rules of an image at rest, in the order of their numbers: those of every image that a power cut can leave
 /// (1 to 10, 12, 14 and 15), and then that nothing is half done (16 to 18), that owner words and live blocks go together one
-/// to one (19 to 21), that stamps are those of commits and stand below their table's bound (27), that pages which were given
-/// back are 0 (29) and that names differ (30). An error names the first rule that the words break, and the place where they
-/// do. It makes a few passes over the words, and n log n steps for n owner words, for which it takes memory: where that is
-/// refused, the words keep the rules before them, 1 to 18.
+/// to one (19 to 21), that stamps are those of commits and stand below their table's bound, above which no column begins
+/// (27), that pages which were given back are 0 (29), that names differ (30) and that the version is 2 (31). An error names
+/// the first rule that the words break, and the place where they do. It makes a few passes over the words, and n log n steps
+/// for n owner words, for which it takes memory: where that is refused, the words keep the rules before them, 1 to 18.
 pub fn check(alloc: Global, words: &[u64]) -> Result<(), CheckError>
     requires segments { length words.now % 32768 ≡ 0 }
     requires one_or_more { 32768 ≤ length words.now }
@@ -110,7 +111,7 @@ fn owners_fault(alloc: Global, words: &[u64]) -> Result<Option<RuleFault>, NoMem
     Ok(RuleFault::of(21, owned))
 }
 
-// Of the rules 27, 29 and 30.
+// Of the rules 27 and 29 to 31.
 fn content_fault(words: &[u64]) -> Option<RuleFault>
     requires segments { length words.now % 32768 ≡ 0 }
     requires one_or_more { 32768 ≤ length words.now }
@@ -123,5 +124,6 @@ fn content_fault(words: &[u64]) -> Option<RuleFault>
     let stamps = RuleFault::of(27, stamp_fault(words));
     let given_back = RuleFault::of(29, given_back_fault(words));
     let names = RuleFault::of(30, distinct_name_fault(words));
-    stamps.or(given_back).or(names)
+    let version = RuleFault::of(31, latest_version_fault(words));
+    stamps.or(given_back).or(names).or(version)
 }
