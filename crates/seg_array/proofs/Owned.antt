@@ -9,7 +9,7 @@ use Rattle.image_layout.specs.EntryRules.{KeepsEntryRules}
 use Rattle.image_layout.specs.Owners.{OwnersAreApart}
 use Rattle.image_layout.specs.Tables.{table_count, table_block, array_headers}
 use Rattle.image_layout.proofs.OwnersApart.{LiveAt}
-use Rattle.image_layout.proofs.OwnedBlocks.{one_array, table_live, header_inside, chunk_live, chunk_apart}
+use Rattle.image_layout.proofs.OwnedBlocks.{one_array, header_inside, chunk_live, chunk_apart}
 use Rattle.heap_palloc.specs.Index.{HeapIndex, IsIndexOf}
 use Rattle.seg_array.specs.Calls.{MayPlanGrowth}
 use Rattle.seg_array.specs.Growth.{next_pointer_at}
@@ -23,9 +23,8 @@ is_live_block words place count at =
 pub may_grow : (words : List ℕ) (index : HeapIndex) (lane table header : ℕ) → KeepsEntryRules words → OwnersAreApart words → table < table_count words → Contains (array_headers words (table_block words table)) header
     → IsIndexOf words index → lane < 16 → get_or words (lane_op_at lane) 0 ≡ 0 → MayPlanGrowth words index lane header
 may_grow words index lane table header entry apart published is index_of lane_is idle =
-    let block = table_live words entry.reserved entry.descriptors entry.table_count entry.table_slots apart table published in
     let inside = header_inside words entry.reserved entry.descriptors entry.table_count entry.table_slots apart table header published is in
-    let first = block.live.first in let size = block.live.size in let holds = block.holds in let low = inside.0 in let high = inside.1 in
+    let first = inside.live.first in let size = inside.live.size in let low = inside.low in let high = inside.high in
     let count = chunk_count words header in
     record {
       rules = record { reserved = entry.reserved; descriptors = entry.descriptors; bitmaps = entry.bitmaps };
@@ -33,7 +32,7 @@ may_grow words index lane table header entry apart published is index_of lane_is
       rule = one_array words table header entry.arrays published is;
       lane_is = lane_is;
       idle = idle;
-      header_is = record { block = block.live.block; live = block.live.live; begins = omega (arith, first, low); ends = omega (arith, first, size, holds, high) };
+      header_is = record { block = inside.live.block; live = inside.live.live; begins = omega (arith, first, low); ends = omega (arith, first, size, high) };
       owned = λ few some. record {
         live = is_live_block words (place_in (get_or words (next_pointer_at words header) 0)) (chunk_words count)
             (chunk_live words entry.reserved entry.descriptors entry.table_count entry.table_slots apart table header published is count (omega arith) few some);
