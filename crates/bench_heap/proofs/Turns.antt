@@ -198,7 +198,7 @@ module _ (d : Device) (words : List ℕ) (index : HeapIndex) (segments : ℕ) (i
       ∙ get_or-fresh_words segments w (omega (arith, high, some))
       ∙ cond-false (is_reserved_descriptor w) 8 _ (or_from (eqb (w % 32768) 0) (ltb w 4) (ne_eqb (w % 32768) 0 (λ e. omega (arith, e, low, high))) (le-ltb w 4 (omega (arith, low))))
       ∙ cond-false (eqb w 512) _ _ (ne_eqb w 512 (λ e. omega (arith, e, low)))
-      ∙ cond-false (eqb w 513) 1 0 (ne_eqb w 513 (λ e. omega (arith, e, low)))
+      ∙ cond-false (eqb w 513) _ _ (ne_eqb w 513 (λ e. omega (arith, e, low)))
 
   pub fresh_used : IsInUse d index
   fresh_used = record {

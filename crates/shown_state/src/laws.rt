@@ -30,7 +30,7 @@ pub fn opening_law()
     ensures formatted_recoverable { FormattedIsRecoverable }
 {}
 
-/// A law for proofs: what the eight steps of opening keep, opening keeps, also where a power cut comes in it; what fits
+/// A law for proofs: what the nine steps of opening keep, opening keeps, also where a power cut comes in it; what fits
 /// together and has nothing left to mend is sound, so what fits is recoverable; and a sound image fits.
 pub fn fits_law()
     ensures opening { StepsMakeOpening }

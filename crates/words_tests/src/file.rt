@@ -16,7 +16,7 @@ fn formatted_words(alloc: Global) -> Result<Vec<u64>, Fail>
     words[2] = 8;
     words[3] = 8;
     words[512] = 0x4244_5452_4f46_4f53;
-    words[513] = 1;
+    words[513] = 2;
     Ok(words)
 }
 
@@ -30,7 +30,7 @@ fn formatted_bytes(alloc: Global) -> Result<Vec<u8>, Fail>
         bytes.extend_from_slice(b"\x08\0\0\0\0\0\0\0")?;
     }
     bytes.resize(4120, 0)?;
-    bytes.extend_from_slice(b"\x01\0\0\0SOFORTDB\x01")?;
+    bytes.extend_from_slice(b"\x01\0\0\0SOFORTDB\x02")?;
     bytes.resize(8220, 0)?;
     Ok(bytes)
 }

@@ -30,7 +30,7 @@ fn a_formatted_image_has_its_words(rt: HostRuntime) -> Result<(), Fail> {
         (4, 0),
         (511, 0),
         (512, u64::from_le_bytes(*b"SOFORTDB")),
-        (513, 1),
+        (513, 2),
         (514, 0),
         (32767, 0),
         (32768, 8),
