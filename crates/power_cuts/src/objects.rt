@@ -26,7 +26,7 @@ use txn_object::{
 
 // A table of one column of integers, without rows, on a formatted image of one segment: its block is the first slot of
 // page 4, and its arrays of creators, enders and codes are the pages 5 to 7.
-const TABLE: [(u32, u64); 17] = [
+const TABLE: [(u32, u64); 18] = [
     (4, 6),
     (5, 17),
     (6, 17),
@@ -36,6 +36,7 @@ const TABLE: [(u32, u64); 17] = [
     (2_048, 1),
     (2_056, 1),
     (2_058, 116),
+    (2_062, 1),
     (2_064, 1),
     (2_065, 4_294_969_856),
     (2_080, 1),
