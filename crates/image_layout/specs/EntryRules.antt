@@ -8,7 +8,7 @@ use Rattle.image_layout.specs.Records.{column_name_at, created_header, ended_hea
 use Rattle.image_layout.specs.Fresh.{magic_number}
 use Rattle.image_layout.specs.Blocks.{is_block_pointer}
 use Rattle.image_layout.specs.Arrays.{capacity, array_rule}
-use Rattle.image_layout.specs.Tables.{table_count, table_block, table_blocks, all_columns, array_headers, column_count, column_record, extension_count, extension_of, extension_pointer_at, inner_columns, is_first_version, is_text, last_extension_pointer}
+use Rattle.image_layout.specs.Tables.{table_count, table_block, table_blocks, all_columns, array_headers, column_count, column_record, extension_count, extension_of, extension_pointer_at, inner_columns, is_first_version, is_text, last_extension_pointer, since_of}
 use Rattle.image_layout.specs.Objects.{is_open, commit_word, ready_count, segment_pointer_at, segment_of, pointer_after, entry_places, entry_kind, entry_table, entry_row}
 use Rattle.image_layout.specs.Trees.{stored_leaves, leaf_list, leaf_slots, text_length, text_words}
 use Rattle.image_layout.specs.Checks.{Check, check, Rule, Keeps, Numbered, numbered, Fault, first_fault}
@@ -34,8 +34,8 @@ last_rule words = check last_at (nat_le (slice_index words last_at) (2 ^ 40 - 1)
 abbrev pub table_count_rule : Rule
 table_count_rule words = check table_count_at (nat_le (table_count words) 32) ∷ []
 
--- the word is the pointer of a table block that lies in one segment, of a table with 1 to 16 columns, the first of which
--- stand in the block
+-- the word is the pointer of a table block that lies in one segment, of a table with 1 to 16 columns, the first of
+-- which stand in the block
 abbrev pub is_table_pointer : List ℕ → ℕ → Bool
 is_table_pointer words word =
     let columns = column_count words (place_in word) in
@@ -63,13 +63,15 @@ extension_pointer_check words block extension =
 -- the pointer after the published columns is null, or names an extension that the table owns and hasn't published
 abbrev pub last_pointer_check : List ℕ → ℕ → Check
 last_pointer_check words block =
-    check (last_extension_pointer words block) (is_null_or_pointer_to words extension_words (slice_index words (last_extension_pointer words block)))
+    check (last_extension_pointer words block)
+    (is_null_or_pointer_to words extension_words (slice_index words (last_extension_pointer words block)))
 
 -- In version 2 the extensions of a table's columns are reached by their pointers, none twice.
 unfoldable pub extension_checks : List ℕ → ℕ → List Check
 extension_checks words block =
     (if is_first_version words then []
-    else map (extension_pointer_check words block) (below (extension_count words block)) ++ last_pointer_check words block ∷ [])
+    else map (extension_pointer_check words block) (below (extension_count words block))
+    ++ last_pointer_check words block ∷ [])
 
 -- the slot of a table, and behind it the extensions of a published table
 abbrev pub table_slot_checks : List ℕ → ℕ → List Check
@@ -142,7 +144,7 @@ kind_check words column = check (kind_at column) ((slice_index words (kind_at co
 unfoldable pub since_checks : List ℕ → ℕ → ℕ → List Check
 since_checks words block column =
     (if not (is_first_version words) && nat_lt column (inner_columns words block)
-    then check (since_at (column_record words block column)) (slice_index words (since_at (column_record words block column)) == 0) ∷ []
+    then check (since_at (column_record words block column)) (since_of words (column_record words block column) == 0) ∷ []
     else [])
 
 -- a column of a table by its number
@@ -155,8 +157,8 @@ column_name_checks words block column =
 -- 12: names and kinds, table by table
 unfoldable pub name_rule : Rule
 name_rule words =
-    flat_map (λ block. name_checks words (table_name_at block) ++ flat_map (column_name_checks words block) (below (column_count words block)))
-    (table_blocks words)
+    flat_map (λ block. name_checks words (table_name_at block)
+    ++ flat_map (column_name_checks words block) (below (column_count words block))) (table_blocks words)
 
 -- the word is the pointer of a text of at most 2,000 bytes that lies in one segment
 abbrev pub is_text_pointer : List ℕ → ℕ → Bool

@@ -79,7 +79,8 @@ extension_owners words block =
 
 abbrev pub block_owners : List ℕ → ℕ → List Owner
 block_owners words block =
-    extension_owners words block ++ array_owners words (created_header block) ++ array_owners words (ended_header block) ++ flat_map (column_owners words) (columns_of words block)
+    extension_owners words block ++ array_owners words (created_header block) ++ array_owners words (ended_header block)
+    ++ flat_map (column_owners words) (columns_of words block)
 
 -- a table's slot, then the owner words of the table
 abbrev pub table_owners : List ℕ → ℕ → List Owner

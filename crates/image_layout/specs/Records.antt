@@ -1,9 +1,10 @@
 -- Where the words of a record stand. A record is named by the place where it begins, and a field by the place of its word.
 use Rattle.std.specs.Prelude.{ℕ, ◌+◌, ◌*◌, ◌/◌}
 
--- Words of a table block: the number of all columns, a bound on its stamped rows, its name of three words, the pointer of
--- the first extension, the number of the columns that stand in the block, the headers of the arrays of the commits that
--- created each row and that ended it, and the records of those columns. The pointer and the second number are of version 2.
+-- Words of a table block: the number of all columns, a bound on its stamped rows, its name of three words, the pointer
+-- of the first extension, the number of the columns that stand in the block, the headers of the arrays of the commits
+-- that created each row and that ended it, and the records of those columns. The pointer and the second number are of
+-- version 2.
 abbrev pub columns_at : ℕ → ℕ
 columns_at block = block
 
@@ -32,8 +33,8 @@ column_at block column = block + 40 + 40 * column
 abbrev pub table_words : ℕ → ℕ
 table_words columns = 40 + 40 * columns
 
--- An extension is a block with one more column of a table: the pointer of the next extension, and behind its first line the
--- column's record.
+-- An extension is a block with one more column of a table: the pointer of the next extension, and behind its first
+-- line the column's record.
 abbrev pub extension_words : ℕ
 extension_words = 48
 
@@ -41,8 +42,8 @@ abbrev pub extension_column_at : ℕ → ℕ
 extension_column_at extension = extension + 8
 
 -- Words of a column record: its kind, its name of three words, the pointer to its first leaf, the leaf that is being
--- split, the leaf that is being added, the first row that the column has a word for, and the headers of the arrays of the
--- rows' codes and of the dictionary.
+-- split, the leaf that is being added, the first row that the column has a word for, and the headers of the arrays of
+-- the rows' codes and of the dictionary.
 abbrev pub kind_at : ℕ → ℕ
 kind_at column = column
 

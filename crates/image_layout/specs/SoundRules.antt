@@ -173,12 +173,13 @@ stamp_checks words block =
 unfoldable pub stamp_rule : Rule
 stamp_rule words = flat_map (stamp_checks words) (table_blocks words)
 
--- The code of a row in a column is below the length. Where its word isn't published the check fails, at the word that counts
--- the chunks.
+-- The code of a row in a column is below the length. Where its word isn't published the check fails, at the word that
+-- counts the chunks.
 abbrev pub row_code_check : List ℕ → ℕ → ℕ → Check
 row_code_check words row column =
     (if nat_lt row (capacity words (codes_header column))
-    then check (place_of words (codes_header column) row) (nat_lt (array_word words (codes_header column) row) (dictionary_length words column))
+    then check (place_of words (codes_header column) row)
+    (nat_lt (array_word words (codes_header column) row) (dictionary_length words column))
     else check (codes_header column) false)
 
 -- the rows that a commit created
@@ -188,7 +189,8 @@ committed_rows words block = filter (λ row. is_commit words (array_word words (
 -- 28: a row that a commit created has a value in each column that has a word for it
 unfoldable pub row_code_rule : Rule
 row_code_rule words =
-    flat_map (λ block. flat_map (λ row. map (row_code_check words row) (columns_with words block row)) (committed_rows words block)) (table_blocks words)
+    flat_map (λ block. flat_map (λ row. map (row_code_check words row) (columns_with words block row))
+    (committed_rows words block)) (table_blocks words)
 
 -- 29: the words of a page that was given back are 0
 unfoldable pub given_back_rule : Rule

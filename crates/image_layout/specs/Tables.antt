@@ -26,17 +26,19 @@ abbrev pub column_count : List ℕ → ℕ → ℕ
 column_count words block = slice_index words (columns_at block)
 
 unfoldable pub inner_columns : List ℕ → ℕ → ℕ
-inner_columns words block = (if is_first_version words then column_count words block else slice_index words (inner_columns_at block))
+inner_columns words block =
+    (if is_first_version words then column_count words block else slice_index words (inner_columns_at block))
 
 -- how many columns stand in extensions, one in each
 abbrev pub extension_count : List ℕ → ℕ → ℕ
 extension_count words block = column_count words block - inner_columns words block
 
--- the place of the pointer to an extension by its number: the block has the pointer to extension 0, and each extension's
--- first word is the pointer to the next one
+-- the place of the pointer to an extension by its number: the block has the pointer to extension 0, and each
+-- extension's first word is the pointer to the next one
 abbrev pub extension_pointer_at : List ℕ → ℕ → ℕ → ℕ
 extension_pointer_at words block zero = first_extension_at block
-extension_pointer_at words block (suc extension) = place_in (slice_index words (extension_pointer_at words block extension))
+extension_pointer_at words block (suc extension) =
+    place_in (slice_index words (extension_pointer_at words block extension))
 
 -- the first word of an extension
 abbrev pub extension_of : List ℕ → ℕ → ℕ → ℕ

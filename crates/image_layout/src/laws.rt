@@ -31,7 +31,8 @@ pub fn limits_law()
     ensures column { (MAX_COLUMNS ≡ 16) × (COLUMN_WORDS ≡ 40) }
     ensures extension { (EXTENSION_WORDS ≡ 48) × (EXTENSION_HEAD_WORDS ≡ 8) }
     ensures array { (HEADER_WORDS ≡ 16) × (MAX_CHUNKS ≡ 12) }
-    ensures fixed { (MAGIC ≡ 0x4244_5452_4F46_4F53) × (VERSION ≡ 2) × (FIRST_VERSION ≡ 1) × (FIXED_PAGES ≡ 4) × (FIRST_SLOT ≡ 8) }
+    ensures fixed { (MAGIC ≡ 0x4244_5452_4F46_4F53) × (FIXED_PAGES ≡ 4) × (FIRST_SLOT ≡ 8) }
+    ensures versions { (VERSION ≡ 2) × (FIRST_VERSION ≡ 1) }
     ensures free { GIVEN_BACK ≡ 1 }
     ensures small { (SMALL_PAGE ≡ 2) × (LAST_SMALL_PAGE ≡ 7) }
     ensures reserved { RESERVED ≡ 8 }

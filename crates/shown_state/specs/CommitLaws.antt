@@ -70,9 +70,9 @@ CommitsAscend = (words : List ℕ) (number : ℕ) → IsCommit words number
 
 -- ── one table ──
 
--- The block of a table `t` with one column `a` of integers and no rows: the number of columns, the bound of 0, the name, no
--- extension, and the number of columns here; behind the empty arrays of creators and enders the column's kind and name, an empty
--- tree and empty arrays.
+-- The block of a table `t` with one column `a` of integers and no rows: the number of columns, the bound of 0, the
+-- name, no extension, and the number of columns here; behind the empty arrays of creators and enders the column's kind
+-- and name, an empty tree and empty arrays.
 abbrev pub one_column_block : List ℕ
 one_column_block = 1 ∷ 0 ∷ 116 ∷ 0 ∷ 0 ∷ 0 ∷ 1 ∷ replicate {A = ℕ} 33 0 ++ 1 ∷ 97 ∷ replicate {A = ℕ} 38 0
 
@@ -106,9 +106,9 @@ one_chunk place = 1 ∷ pointer_word place ∷ replicate {A = ℕ} 14 0
 abbrev pub two_words : ℕ → ℕ → List ℕ
 two_words first second = first ∷ second ∷ replicate {A = ℕ} 510 0
 
--- The same table with two rows: its bound is 2, its arrays of creators and enders, and its column's of codes and of the
--- dictionary, are the pages 5 to 8, and its leaf is the second slot of page 4. It has two columns more, in the first two slots of
--- page 9, a small page for blocks of 64 words.
+-- The same table with two rows: its bound is 2, its arrays of creators and enders, and its column's of codes and of
+-- the dictionary, are the pages 5 to 8, and its leaf is the second slot of page 4. It has two columns more, in the
+-- first two slots of page 9, a small page for blocks of 64 words.
 abbrev pub two_row_block : List ℕ
 two_row_block =
     (3 ∷ 2 ∷ 116 ∷ 0 ∷ 0 ∷ pointer_word 4616 ∷ 1 ∷ 0 ∷ one_chunk 2560 ++ one_chunk 3072)
@@ -118,8 +118,9 @@ two_row_block =
 abbrev pub two_pair_leaf : List ℕ
 two_pair_leaf = 3 ∷ 0 ∷ 33415 ∷ replicate {A = ℕ} 5 0 ++ (2 ^ 63 + 7) ∷ 0 ∷ (2 ^ 63 - 3) ∷ 1 ∷ []
 
--- The extension of a column `b` of integers that begins at row 1: its arrays of codes and of the dictionary are the pages 10 and
--- 11, and its leaf is the third slot of page 4. Behind it one of a column `c` of texts that begins at row 2.
+-- The extension of a column `b` of integers that begins at row 1: its arrays of codes and of the dictionary are the
+-- pages 10 and 11, and its leaf is the third slot of page 4. Behind it one of a column `c` of texts that begins at row
+-- 2.
 abbrev pub later_extension : List ℕ
 later_extension =
     (pointer_word 4680 ∷ replicate {A = ℕ} 7 0)
@@ -138,7 +139,8 @@ unfoldable pub two_commit_image : List ℕ
 two_commit_image =
     (8 ∷ 8 ∷ 8 ∷ 8 ∷ 6 ∷ 17 ∷ 17 ∷ 17 ∷ 17 ∷ 5 ∷ 17 ∷ 17 ∷ replicate {A = ℕ} 500 0)
     ++ (magic_number ∷ 2 ∷ 2 ∷ 1 ∷ replicate {A = ℕ} 4 0 ++ pointer_word 2056 ∷ replicate {A = ℕ} 1527 0)
-    ++ (7 ∷ replicate {A = ℕ} 7 0 ++ two_row_block ++ replicate {A = ℕ} 48 0 ++ two_pair_leaf ++ replicate {A = ℕ} 116 0)
+    ++ (7 ∷ replicate {A = ℕ} 7 0 ++ two_row_block ++ replicate {A = ℕ} 48 0)
+    ++ (two_pair_leaf ++ replicate {A = ℕ} 116 0)
     ++ (one_pair_leaf ++ replicate {A = ℕ} 238 0)
     ++ (two_words 1 2 ++ two_words 2 0 ++ two_words 0 1 ++ two_words (2 ^ 63 + 7) (2 ^ 63 - 3))
     ++ (3 ∷ replicate {A = ℕ} 7 0 ++ later_extension ++ last_extension ++ replicate {A = ℕ} 392 0)
@@ -152,13 +154,21 @@ TwoCommitsAreShown =
     × (logical_state two_commit_image ≡ record {
       tables = record {
         name = 116 ∷ [];
-        columns = record { name = 97 ∷ []; kind = kind.Int } ∷ record { name = 98 ∷ []; kind = kind.Int } ∷ record { name = 99 ∷ []; kind = kind.Text } ∷ [];
+        columns =
+            record { name = 97 ∷ []; kind = kind.Int }
+            ∷ record { name = 98 ∷ []; kind = kind.Int }
+            ∷ record { name = 99 ∷ []; kind = kind.Text }
+            ∷ [];
         next_row = 2;
       } ∷ [];
       commits =
-          record { created = record { key = row_key 0 0; values = value.Int (pos 7) ∷ value.Int (pos 0) ∷ value.Text [] ∷ [] } ∷ []; ended = [] }
+          record {
+            created = record { key = row_key 0 0; values = value.Int (pos 7) ∷ value.Int (pos 0) ∷ value.Text [] ∷ [] } ∷ [];
+            ended = [];
+          }
           ∷ record {
-            created = record { key = row_key 0 1; values = value.Int (negsuc 2) ∷ value.Int (pos 5) ∷ value.Text [] ∷ [] } ∷ [];
+            created =
+                record { key = row_key 0 1; values = value.Int (negsuc 2) ∷ value.Int (pos 5) ∷ value.Text [] ∷ [] } ∷ [];
             ended = row_key 0 0 ∷ [];
           }
           ∷ [];

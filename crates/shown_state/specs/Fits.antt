@@ -85,13 +85,14 @@ pub record HasValue (words : List ℕ) (row column : ℕ) : Type 0 where
   pub published : row < capacity words (codes_header column)
   pub known : array_word words (codes_header column) row < dictionary_length words column
 
--- The rows of a table: each row that was given out is used up, or will be; there are words for the stamps of those; no column
--- begins above the bound; and each stamp is that of a commit, or opening takes it back.
+-- The rows of a table: each row that was given out is used up, or will be; there are words for the stamps of those; no
+-- column begins above the bound; and each stamp is that of a commit, or opening takes it back.
 pub record RowsFit (words : List ℕ) (table : ℕ) : Type 0 where
   pub rows : next_row_of words table ≤ used_up words table
   pub created_room : used_up words table ≤ capacity words (created_header (table_block words table))
   pub ended_room : used_up words table ≤ capacity words (ended_header (table_block words table))
-  pub begun : All (λ column. since_of words column ≤ slice_index words (high_at (table_block words table))) (columns_of words (table_block words table))
+  pub begun : All (λ column. since_of words column ≤ slice_index words (high_at (table_block words table)))
+      (columns_of words (table_block words table))
   pub created : (row : ℕ) → row < capacity words (created_header (table_block words table)) → CreatorFits words table row
   pub ended : (row : ℕ) → row < capacity words (ended_header (table_block words table)) → EnderFits words table row
   pub values : (row : ℕ) → row < capacity words (created_header (table_block words table)) → 1 ≤ creator words table row → creator words table row ≤ last_commit words
@@ -99,14 +100,15 @@ pub record RowsFit (words : List ℕ) (table : ℕ) : Type 0 where
 
 -- ── all of it ──
 
--- What version 2 reads and version 1 doesn't is 0 there: the pointer to a table's first extension, and the row at which a
--- column begins.
+-- What version 2 reads and version 1 doesn't is 0 there: the pointer to a table's first extension, and the row at
+-- which a column begins.
 pub record BeginsFirst (words : List ℕ) (table : ℕ) : Type 0 where
   pub no_extension : slice_index words (first_extension_at (table_block words table)) ≡ 0
   pub all_rows : All (λ column. since_of words column ≡ 0) (columns_of words (table_block words table))
 
--- An image fits together: the rules that every image keeps, owner words apart, and the logs; each live block is spoken for;
--- the rules of an image at rest that no power cut breaks; the rows of each table; and in version 1 what version 2 reads beside it.
+-- An image fits together: the rules that every image keeps, owner words apart, and the logs; each live block is spoken
+-- for; the rules of an image at rest that no power cut breaks; the rows of each table; and in version 1 what version 2
+-- reads beside it.
 pub record Fits (words : List ℕ) : Type 0 where
   pub entry : KeepsEntryRules words
   pub apart : OwnersAreApart words

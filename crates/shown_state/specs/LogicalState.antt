@@ -43,12 +43,13 @@ abbrev pub zero_value : Bool → Value
 zero_value true = value.Text []
 zero_value false = value.Int (pos 0)
 
--- A row's value in a column: that whose key word stands in the dictionary at the row's code, and the zero value where the
--- column has words for later rows only.
+-- A row's value in a column: that whose key word stands in the dictionary at the row's code, and the zero value where
+-- the column has words for later rows only.
 abbrev pub row_value : List ℕ → ℕ → ℕ → Value
 row_value words row column =
     (if nat_lt row (since_of words column) then zero_value (is_text words column)
-    else key_value words (is_text words column) (dictionary_word words column (array_word words (codes_header column) row)))
+    else key_value words (is_text words column)
+    (dictionary_word words column (array_word words (codes_header column) row)))
 
 abbrev pub row_values : List ℕ → ℕ → ℕ → List Value
 row_values words block row = map (row_value words row) (columns_of words block)

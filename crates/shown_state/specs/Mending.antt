@@ -183,12 +183,15 @@ count_columns words table =
 -- an image of version 1 gets that word in each table, and is then one of version 2
 abbrev pub version_mending : Mending
 version_mending words =
-    (if is_first_version words then map (count_columns words) (below (table_count words)) ++ one_store version_at 2 ∷ [] else [])
+    (if is_first_version words
+    then map (count_columns words) (below (table_count words)) ++ one_store version_at 2 ∷ []
+    else [])
 
 -- ── all of it ──
 
--- All that opening mends, in order: each lane, split log, the table slot at the table count, the dictionary slot at the
--- length of each column, the last number, then each object in three rounds, and the version. There are at most 512 columns.
+-- All that opening mends, in order: each lane, split log, the table slot at the table count, the dictionary slot at
+-- the length of each column, the last number, then each object in three rounds, and the version. There are at most 512
+-- columns.
 abbrev pub mendings : List Mending
 mendings =
     map lane_mending (below 16)

@@ -52,8 +52,9 @@ AreJoined columns words = AreIdle 16 words × NoneIsSplit columns words
 abbrev pub HaveNoNew : ℕ → List ℕ → Type 0
 HaveNoNew columns words = AreJoined 512 words × NoTableIsNew words × NoTextIsNew columns words
 
--- All this, and the last number is that of the last commit, and of so many objects no transaction is undecided; none is
--- undecided and of so many objects none is open; none is open, and so many objects are clear; all are, and the version is 2.
+-- All this, and the last number is that of the last commit, and of so many objects no transaction is undecided; none
+-- is undecided and of so many objects none is open; none is open, and so many objects are clear; all are, and the
+-- version is 2.
 abbrev pub AreUndone : ℕ → List ℕ → Type 0
 AreUndone objects words = HaveNoNew 512 words × (slice_index words last_at ≡ last_commit words) × NoneIsUndecided objects words
 
@@ -93,7 +94,8 @@ abbrev pub ClearsKeep : Type 0
 ClearsKeep = (words : List ℕ) (object : ℕ) → IsImage words → object < 16 → Fits words → AreClear object words → StepKeeps (AreClear (object + 1)) (clear_mending object) words
 
 abbrev pub VersionKeeps : Type 0
-VersionKeeps = (words : List ℕ) → IsImage words → Fits words → AreClear 16 words → StepKeeps AreMended version_mending words
+VersionKeeps =
+    (words : List ℕ) → IsImage words → Fits words → AreClear 16 words → StepKeeps AreMended version_mending words
 
 -- the nine steps
 pub record StepsKeep : Type 0 where
