@@ -4,7 +4,7 @@ use Rattle.std.specs.Prelude.{All}
 use Rattle.std.specs.Int.{w64, from_le_bytes, to_le_bytes}
 use Rattle.std.specs.Char.{is_ascii_lowercase, is_ascii_digit}
 use Rattle.std.specs.List.{flat_map, list_all, prefix_len, range_with_len}
-use Rattle.std.proofs.lemmas.Bool.{and_parts, eqb-true, leb-true, or_cases}
+use Rattle.std.proofs.lemmas.Bool.{and_parts, cases_Bool, eqb-true, leb-true, or_cases}
 use Rattle.std.proofs.lemmas.List.{ext_get_or, get_or-append-add, get_or_append_left, get_or-drop, get_or-take, get_or_past, length-map, length-take-le}
 use Rattle.std.proofs.lemmas.Nat.{le_bytes_8}
 use Rattle.mv_model.specs.declared.shape.Column.{Column}
@@ -13,7 +13,8 @@ use Rattle.mv_model.specs.declared.shape.Kind.TheVariants.{Int, Text}
 use Rattle.mv_model.specs.Name.{is_name, is_name_byte, begins_with_lowercase}
 use Rattle.image_layout.specs.Places.{below, packed_byte}
 use Rattle.image_layout.specs.Records.{column_at, columns_at, table_name_at}
-use Rattle.image_layout.specs.Tables.{columns_of, is_text}
+use Rattle.image_layout.specs.Tables.{columns_of, column_record as image_record, inner_columns, is_first_version, is_text}
+use Rattle.image_layout.proofs.TableParts.{first_inner, inner_record, second_inner}
 use Rattle.shown_state.specs.LogicalState.{name_at, column_of, kind_of}
 use Rattle.shown_state.specs.Packed.{packed_word}
 use Rattle.catalog.specs.Creation.{kind_word, column_record, head_record, table_record}
@@ -220,6 +221,15 @@ module _ (words : List ℕ) (block : ℕ) (name : List ℕ) (columns : List Colu
   pub column_count_back : get_or words (columns_at block) 0 ≡ length columns
   column_count_back = head_word block 0 (omega arith) (omega arith)
 
+  pub inner_back : inner_columns words block ≡ length columns
+  inner_back = ⊎_elim
+      (λ first. first_inner words block first ∙ column_count_back)
+      (λ second. second_inner words block second ∙ head_word (block + 6) 6 (omega arith) (omega arith))
+      (cases_Bool (is_first_version words))
+
+  record_back : (j : ℕ) → j < length columns → image_record words block j ≡ column_at block j
+  record_back j lt = let inner = inner_back in inner_record words block j (omega (arith, inner, lt))
+
   column_words : (j i : ℕ) (d : Column) → j < length columns → i < 40 → get_or words (column_at block j + i) 0 ≡ get_or (column_record (get_or columns j d)) i 0
   column_words j i d lt within =
       let head = length-head_record name (length columns) in
@@ -233,13 +243,14 @@ module _ (words : List ℕ) (block : ℕ) (name : List ℕ) (columns : List Colu
 
   pub columns_back : All (λ (column : Column). HasNameBytes column.name) columns → map (column_of words) (columns_of words block) ≡ columns
   columns_back known =
-      ap (λ (n : ℕ). map (column_of words) (map (column_at block) (below n))) column_count_back
-      ∙ mapped_back (column_of words) (column_at block) columns 0 each
+      ap (λ (n : ℕ). map (column_of words) (map (image_record words block) (below n))) column_count_back
+      ∙ mapped_back (column_of words) (image_record words block) columns 0 each
     where
       none : (j : ℕ) → 0 + j ≡ j
       none j = omega arith
 
-      each : (j : ℕ) (d : Column) → j < length columns → column_of words (column_at block (0 + j)) ≡ get_or columns j d
+      each : (j : ℕ) (d : Column) → j < length columns → column_of words (image_record words block (0 + j)) ≡ get_or columns j d
       each j d lt =
-          ap (λ (k : ℕ). column_of words (column_at block k)) (none j)
+          ap (λ (k : ℕ). column_of words (image_record words block k)) (none j)
+          ∙ ap (column_of words) (record_back j lt)
           ∙ column_back words (column_at block j) (get_or columns j d) (known j d lt) (λ k few. column_words j k d lt (omega (arith, few)))

@@ -16,18 +16,19 @@ use Rattle.mv_model.specs.Shape.{lacks_column, names_differ}
 use Rattle.pm_model.specs.Device.{AreWords}
 use Rattle.image_layout.specs.Fixed.{table_slot_at}
 use Rattle.image_layout.specs.Places.{below, packed_byte}
-use Rattle.image_layout.specs.Records.{column_at, column_name_at, columns_at, table_name_at}
-use Rattle.image_layout.specs.Tables.{table_count, table_block, table_blocks, columns_of}
+use Rattle.image_layout.specs.Records.{column_name_at, table_name_at}
+use Rattle.image_layout.specs.Tables.{table_count, table_block, table_blocks, columns_of, column_count, column_record, extension_count, extension_pointer_at, is_first_version}
 use Rattle.image_layout.specs.Checks.{Check, check}
-use Rattle.image_layout.specs.EntryRules.{is_letter, is_name_byte, is_padded_name_byte, kind_check, name_checks, name_rule}
+use Rattle.image_layout.specs.EntryRules.{is_letter, is_name_byte, is_padded_name_byte, column_name_checks, kind_check, name_checks, name_rule, since_checks}
 use Rattle.image_layout.specs.SoundRules.{IsSound, same_name, name_place_checks, table_name_checks, distinct_name_rule}
 use Rattle.image_layout.proofs.Heap.{Holds}
-use Rattle.image_layout.proofs.Members.{below-Contains, Contains-here, Contains-there, Contains-cons, Contains-nil, map-Contains}
+use Rattle.image_layout.proofs.Members.{below-Contains, Contains-below, Contains-here, Contains-map, Contains-there, Contains-cons, Contains-nil, map-Contains}
 use Rattle.image_layout.proofs.OwnedBlocks.{keeps_one}
 use Rattle.image_layout.proofs.OwnersApart.{all_from}
-use Rattle.image_layout.proofs.TableSlots.{one_table, table_in_image}
+use Rattle.image_layout.proofs.TableParts.{first_inner}
+use Rattle.image_layout.proofs.TableSlots.{extension_in_image, one_extension, one_table, table_in_image}
 use Rattle.shown_state.specs.LogicalState.{name_at, column_of}
-use Rattle.catalog.specs.Entries.{KeepsTableRules, ShowsTable}
+use Rattle.catalog.specs.Entries.{KeepsTableRules, NamesExtension, ShowsTable}
 use Rattle.catalog.proofs.Lists.{mapped_count}
 use Rattle.catalog.proofs.Names.{some_byte}
 use Rattle.catalog.proofs.ReadBack.{mapped_at}
@@ -247,29 +248,45 @@ module _ (words : List ℕ) (fit : AreWords words) (whole : length words % 32768
   abbrev block : ℕ
   block = table_block words table
 
-  column_checks : ℕ → List Check
-  column_checks column = kind_check words column ∷ name_checks words (column_name_at column)
-
   is_block : Contains (table_blocks words) block
   is_block = map-Contains (table_block words) (below (table_count words)) table (below-Contains (table_count words) table lt)
 
-  table_checks : All Holds (name_checks words (table_name_at block) ++ flat_map column_checks (columns_of words block))
-  unfolding name_rule column_checks
-  table_checks = keeps_one words (table_blocks words) (λ b. name_checks words (table_name_at b) ++ flat_map (λ column. kind_check words column ∷ name_checks words (column_name_at column)) (columns_of words b)) (table_block words table) keeps.names.checks is_block
+  abbrev of_columns : List Check
+  of_columns = flat_map (column_name_checks words block) (below (column_count words block))
+
+  table_checks : All Holds (name_checks words (table_name_at block) ++ of_columns)
+  unfolding name_rule
+  table_checks = keeps_one words (table_blocks words) (λ b. name_checks words (table_name_at b) ++ flat_map (column_name_checks words b) (below (column_count words b))) (table_block words table) keeps.names.checks is_block
 
   table_padded : IsPadded words (table_name_at block)
   table_padded =
       let own = name_checks words (table_name_at (table_block words table)) in
-      let later = flat_map column_checks (columns_of words (table_block words table)) in
+      let later = of_columns in
       is_padded words (table_name_at (table_block words table)) (all_from Holds own (λ c there. All-contains Holds (own ++ later) c table_checks (Contains-append_left own later c there)))
 
-  column_padded : (column : ℕ) → Contains (columns_of words block) column → IsPadded words (column_name_at column)
-  unfolding column_checks
-  column_padded column is =
+  numbered_padded : (number : ℕ) → number < column_count words block → IsPadded words (column_name_at (column_record words block number))
+  numbered_padded number lt =
+      let column = column_record words block number in
       let own = name_checks words (table_name_at (table_block words table)) in
-      let later = flat_map column_checks (columns_of words (table_block words table)) in
+      let later = of_columns in
+      let named = name_checks words (column_name_at column) in
+      let late = since_checks words block number in
       let all = all_from Holds later (λ c there. All-contains Holds (own ++ later) c table_checks (Contains-append_right own later c there)) in
-      is_padded words (column_name_at column) (All-tail Holds (kind_check words column) (name_checks words (column_name_at column)) (keeps_one words (columns_of words (table_block words table)) column_checks column all is))
+      let one = All-tail Holds (kind_check words column) (named ++ late) (keeps_one words (below (column_count words block)) (column_name_checks words block) number all (below-Contains (column_count words block) number lt)) in
+      is_padded words (column_name_at column) (all_from Holds named (λ c there. All-contains Holds (named ++ late) c one (Contains-append_left named late c there)))
+
+  column_padded : (column : ℕ) → Contains (columns_of words block) column → IsPadded words (column_name_at column)
+  column_padded column is =
+      let (number, among, here) = Contains-map (column_record words block) (below (column_count words block)) column is in
+      subst (λ (c : ℕ). IsPadded words (column_name_at c)) here (numbered_padded number (Contains-below (column_count words block) number among))
+
+  named_extension : (extension : ℕ) → extension < extension_count words block → NamesExtension words block extension
+  named_extension extension here = ⊎_elim
+      (λ first. absurd (let none = first_inner words block first in omega (arith, here, none)))
+      (λ second.
+      let points = one_extension words keeps.table_count keeps.table_slots table extension lt second here in
+      record { pointer = points.pointer; in_image = extension_in_image words (get_or words (extension_pointer_at words block extension) 0) whole points })
+      (cases_Bool (is_first_version words))
 
   distinct : All Holds (name_place_checks words [] (map column_name_at (columns_of words block)))
   unfolding distinct_name_rule
@@ -278,18 +295,22 @@ module _ (words : List ℕ) (fit : AreWords words) (whole : length words % 32768
   pub shows_table : ShowsTable words table
   shows_table =
       let points = one_table words table keeps.table_count keeps.table_slots lt in
-      let count = get_or words (columns_at (table_block words table)) 0 in
+      let count = column_count words (table_block words table) in
       let columns = columns_of words (table_block words table) in
-      let size = mapped_count (column_of words) (column_at (table_block words table)) count in
+      let size = mapped_count (column_of words) (column_record words (table_block words table)) count in
       let some = points.least in
+      let inner = points.inner in
       record {
         pointer = points.pointer;
-        most = points.most;
-        in_image = table_in_image words (get_or words (table_slot_at table) 0) whole points;
+        records = record {
+          most = points.most;
+          inner = points.inner;
+          in_image = table_in_image words (get_or words (table_slot_at table) 0) whole points;
+          extensions = named_extension;
+        };
         name = name_is_name words (table_name_at (table_block words table)) table_padded;
-        column_names = λ column within. name_is_name words (column_name_at (column_at (table_block words table) column))
-            (column_padded (column_at (table_block words table) column) (map-Contains (column_at (table_block words table)) (below count) column (below-Contains count column within)));
-        shape = and_from (ltb 0 (length (map (column_of words) columns))) (names_differ (map (column_of words) columns)) (lt-ltb 0 (length (map (column_of words) columns)) (omega (arith, some, size)))
+        column_names = λ column within. name_is_name words (column_name_at (column_record words (table_block words table) column)) (numbered_padded column within);
+        shape = and_from (ltb 0 (length (map (column_of words) columns))) (names_differ (map (column_of words) columns)) (lt-ltb 0 (length (map (column_of words) columns)) (omega (arith, some, inner, size)))
             (columns_differ words fit [] columns column_padded distinct);
       }
 

@@ -22,9 +22,10 @@ kind_word Text = 2
 abbrev pub column_record : Column → List ℕ
 column_record column = kind_word column.kind ∷ packed_words column.name 3 ++ replicate {A = ℕ} 36 0
 
--- the 40 words before the columns: how many there are, no stamped row, the name, and no chunk yet
+-- the 40 words before the columns: how many there are, no stamped row, the name, no extension, how many columns stand in the
+-- block, which are all, and no chunk yet
 abbrev pub head_record : List ℕ → ℕ → List ℕ
-head_record name columns = columns ∷ 0 ∷ packed_words name 3 ++ replicate {A = ℕ} 35 0
+head_record name columns = columns ∷ 0 ∷ packed_words name 3 ++ 0 ∷ columns ∷ replicate {A = ℕ} 33 0
 
 -- the words of a new table's block, in ascending place
 abbrev pub table_record : List ℕ → List Column → List ℕ

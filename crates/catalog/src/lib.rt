@@ -27,5 +27,5 @@ mod words;
 pub use error::CreateError;
 pub use laws::creation_law;
 pub use pm_model::NoMemory;
-pub use reading::rebuild;
+pub use reading::{column_place, rebuild};
 pub use tables::Catalog;

@@ -3,17 +3,18 @@ ghost use Rattle.std.specs.Prelude.{◌≡◌, ◌+◌, ◌*◌, ◌/◌, ◌%�
 ghost use Rattle.mv_model.specs.Name.{is_name};
 ghost use Rattle.mv_model.specs.Shape.{is_shape};
 ghost use Rattle.image_layout.specs.Places.{below, packed_byte};
-ghost use Rattle.image_layout.specs.Records.{column_at, column_name_at, columns_at, table_words};
-ghost use Rattle.image_layout.specs.Tables.{columns_of, table_count as count_of_tables};
+ghost use Rattle.image_layout.specs.Records.{column_name_at};
+ghost use Rattle.image_layout.specs.Tables.{columns_of, column_count as count_of_columns, column_record, extension_count, extension_of, extension_pointer_at, inner_columns as columns_in_block};
 ghost use Rattle.shown_state.specs.LogicalState.{column_of, name_at};
-ghost use Rattle.catalog.specs.Entries.{KeepsTableRules, ShowsTable, published_table, published_tables};
+ghost use Rattle.catalog.specs.Entries.{HasRecords, KeepsTableRules, ShowsTable, published_table, published_tables};
 
 use crate::tables::{Catalog, Table};
 use arrayvec::ArrayVec;
+use image_layout::{extension_column, first_extension, inner_columns, next_extension};
 use mv_model::{Column, Kind, Name, Shape};
 use pm_model::{
-    Memory, NoMemory, Place, column, column_count, column_kind, column_name, named_place,
-    table_count, table_name, table_slot,
+    FIRST_VERSION, Memory, NoMemory, Place, column, column_count, column_kind, column_name,
+    named_place, table_count, table_name, table_slot, version,
 };
 use std::alloc::Global;
 
@@ -53,11 +54,10 @@ fn read_table<M: Memory>(mem: &M, table: u8) -> Table
 
 // The columns of a table.
 fn read_shape<M: Memory>(mem: &M, block: Place) -> Shape
-    requires most { slice_index (M.device mem.now).cached (columns_at block.0) ≤ 16 }
-    requires in_image { block.0 + table_words (slice_index (M.device mem.now).cached (columns_at block.0))
-        ≤ length (M.device mem.now).cached }
-    requires names { (number : ℕ) → number < slice_index (M.device mem.now).cached (columns_at block.0) →
-        IsTrue (is_name (name_at (M.device mem.now).cached (column_name_at (column_at block.0 number)))) }
+    requires records { HasRecords (M.device mem.now).cached block.0 }
+    requires names { (number : ℕ) → number < count_of_columns (M.device mem.now).cached block.0 →
+        IsTrue (is_name (name_at (M.device mem.now).cached
+        (column_name_at (column_record (M.device mem.now).cached block.0 number)))) }
     requires shape { IsTrue (is_shape
         (map (column_of (M.device mem.now).cached) (columns_of (M.device mem.now).cached block.0))) }
     ensures { result ≡ map (column_of (M.device mem.now).cached) (columns_of (M.device mem.now).cached block.0) }
@@ -65,9 +65,61 @@ fn read_shape<M: Memory>(mem: &M, block: Place) -> Shape
     let count = mem.load(column_count(block)) as u8;
     let mut columns = ArrayVec::new();
     for number in 0..count {
-        columns.push(read_column(mem, column(block, number)));
+        columns.push(read_column(mem, column_place(mem, block, number)));
     }
     Shape::of(columns).unwrap()
+}
+
+/// The record of a table's column, by the place of the table's block and the column's number. It reads as many words as the
+/// table has extensions, at most 15.
+pub fn column_place<M: Memory>(mem: &M, block: Place, number: u8) -> Place
+    requires records { HasRecords (M.device mem.now).cached block.0 }
+    requires number { number < count_of_columns (M.device mem.now).cached block.0 }
+    ensures place { result.0 ≡ column_record (M.device mem.now).cached block.0 number }
+    ensures in_image { result.0 + 40 ≤ length (M.device mem.now).cached }
+{
+    let inner = inner_count(mem, block);
+    if number < inner {
+        return column(block, number);
+    }
+    extension_column(extension(mem, block, number - inner))
+}
+
+// How many columns of a table stand in its block.
+fn inner_count<M: Memory>(mem: &M, block: Place) -> u8
+    requires { HasRecords (M.device mem.now).cached block.0 }
+    ensures { result ≡ columns_in_block (M.device mem.now).cached block.0 }
+{
+    if mem.load(version()) == FIRST_VERSION {
+        return mem.load(column_count(block)) as u8;
+    }
+    mem.load(inner_columns(block)) as u8
+}
+
+// An extension of a table, by its number.
+fn extension<M: Memory>(mem: &M, block: Place, number: u8) -> Place
+    requires records { HasRecords (M.device mem.now).cached block.0 }
+    requires number { number < extension_count (M.device mem.now).cached block.0 }
+    ensures place { result.0 ≡ extension_of (M.device mem.now).cached block.0 number }
+    ensures in_image { result.0 + 48 ≤ length (M.device mem.now).cached }
+{
+    let mut pointer = first_extension(block);
+    for extension in 0..number {
+        pointer = next_extension(named_extension(mem, block, extension, pointer));
+    }
+    named_extension(mem, block, number, pointer)
+}
+
+// The extension that a pointer names, by the extension's number and the pointer's place.
+fn named_extension<M: Memory>(mem: &M, block: Place, number: u8, pointer: Place) -> Place
+    requires records { HasRecords (M.device mem.now).cached block.0 }
+    requires number { number < extension_count (M.device mem.now).cached block.0 }
+    requires pointer { pointer.0 ≡ extension_pointer_at (M.device mem.now).cached block.0 number }
+    requires in_image { pointer.0 < length (M.device mem.now).cached }
+    ensures place { result.0 ≡ extension_of (M.device mem.now).cached block.0 number }
+    ensures in_image { result.0 + 48 ≤ length (M.device mem.now).cached }
+{
+    named_place(mem, pointer)
 }
 
 // A column by the place of its record.

@@ -64,6 +64,7 @@ fn push_head(plan: &mut Plan, block: Place, name: &Name, columns: u64)
     words[2] = packed(bytes, 0);
     words[3] = packed(bytes, 1);
     words[4] = packed(bytes, 2);
+    words[6] = columns;
     push_words(plan, block, &words);
 }
 
