@@ -1,5 +1,7 @@
 // The soundness check, on images in which words were changed.
-use crate::ground::{BLOCK, Change, LAST_PAGE, PAGE_5, SLOT, TABLE, image};
+use crate::ground::{
+    BLOCK, Change, EXTENSION, EXTENSIONS, FIRST_VERSION, LAST_PAGE, PAGE_5, SLOT, TABLE, image,
+};
 use img_check::{CheckError, check};
 use pm_model::NoMemory;
 use std::alloc::Global;
@@ -88,8 +90,11 @@ fn the_first_broken_rule_is_told(rt: HostRuntime) -> Result<(), Fail> {
         (&[(9, 1), (4608, 5)], Some((29, 4608))),
         (&[(63, 1), (32767, 5)], Some((29, 32767))),
         (&[(9, 1), (5120, 5)], None),
-        (&[(2056, 2), (2136, 1), (2137, 97)], Some((30, 2137))),
-        (&[(2056, 2), (2136, 2), (2137, 98)], None),
+        (
+            &[(2056, 2), (2062, 2), (2136, 1), (2137, 97)],
+            Some((30, 2137)),
+        ),
+        (&[(2056, 2), (2062, 2), (2136, 2), (2137, 98)], None),
         (
             &[
                 (515, 2),
@@ -97,6 +102,7 @@ fn the_first_broken_rule_is_told(rt: HostRuntime) -> Result<(), Fail> {
                 (2048, 3),
                 (2184, 1),
                 (2186, 116),
+                (2190, 1),
                 (2224, 1),
                 (2225, 97),
             ],
@@ -112,7 +118,7 @@ fn the_first_broken_rule_is_told(rt: HostRuntime) -> Result<(), Fail> {
 
 #[test]
 fn stamps_fit_the_bound_and_the_commits(rt: HostRuntime) -> Result<(), Fail> {
-    let cases: [(&[Change], Told); 27] = [
+    let cases: [(&[Change], Told); 26] = [
         (&[], None),
         // The bound, and the rows of each array.
         (&[(2057, 0)], Some((27, 2560))),
@@ -122,7 +128,6 @@ fn stamps_fit_the_bound_and_the_commits(rt: HostRuntime) -> Result<(), Fail> {
         (&[(2057, 513)], Some((27, 2057))),
         (&[(2064, 0)], Some((27, 2057))),
         (&[(2080, 0)], Some((27, 2057))),
-        (&[(2104, 0)], Some((27, 2057))),
         // A row's creator: none, none that is kept, or a commit.
         (&[(2563, 3)], None),
         (&[(2563, 4)], Some((27, 2563))),
@@ -149,6 +154,67 @@ fn stamps_fit_the_bound_and_the_commits(rt: HostRuntime) -> Result<(), Fail> {
     ];
     for (changes, told) in cases {
         let found = told_of(rt.alloc(), &[&TABLE, &ROWS, changes])?;
+        assert_eq!(rt; found, Some(told), "{changes:?}");
+    }
+    Ok(())
+}
+
+// Four rows below the table's bound, of which commits 1 and 2 created the first two. The arrays of stamps are the pages 6
+// and 7.
+const MOVED_ROWS: [Change; 10] = [
+    (514, 3),
+    (2057, 4),
+    (6, 17),
+    (7, 17),
+    (2064, 1),
+    (2065, PAGE_5 + 512),
+    (2080, 1),
+    (2081, PAGE_5 + 1024),
+    (3072, 1),
+    (3073, 2),
+];
+
+#[test]
+fn columns_in_extensions_are_tried(rt: HostRuntime) -> Result<(), Fail> {
+    let cases: [(&[Change], Told); 16] = [
+        (&[], None),
+        // The bound isn't below the row at which a column begins.
+        (&[(2647, 5)], Some((27, 2057))),
+        (&[(2583, 5)], Some((27, 2057))),
+        (&[(2583, 4)], None),
+        (&[(2057, 3)], Some((27, 2057))),
+        // Each extension is a block with one owner, also the one after the published columns.
+        (&[(2568, EXTENSION)], Some((9, 2568))),
+        (&[(2632, EXTENSION)], Some((20, 2632))),
+        (&[(2632, EXTENSION + 1)], Some((19, 2632))),
+        (&[(2056, 2), (2647, 0)], None),
+        (&[(2056, 2), (2568, 0)], Some((21, 2632))),
+        (&[(2560, 7)], Some((21, 2696))),
+        (&[(2560, 7), (2632, EXTENSION + 128)], None),
+        (&[(5, 6)], Some((19, 2061))),
+        // The chunks of their arrays are owned.
+        (&[(8, 17), (2585, PAGE_5 + 1536)], None),
+        (&[(2641, 98)], Some((30, 2641))),
+        // In version 1 all columns stand in the block.
+        (&[(513, 1)], Some((12, 2136))),
+    ];
+    for (changes, told) in cases {
+        let found = told_of(rt.alloc(), &[&TABLE, &EXTENSIONS, &MOVED_ROWS, changes])?;
+        assert_eq!(rt; found, Some(told), "{changes:?}");
+    }
+    Ok(())
+}
+
+#[test]
+fn version_1_is_not_sound(rt: HostRuntime) -> Result<(), Fail> {
+    let cases: [(&[Change], Told); 4] = [
+        (&[], Some((31, 513))),
+        (&[(2062, 7)], Some((31, 513))),
+        (&[(2041, 1)], Some((18, 2041))),
+        (&[(513, 2), (2062, 1)], None),
+    ];
+    for (changes, told) in cases {
+        let found = told_of(rt.alloc(), &[&TABLE, &FIRST_VERSION, changes])?;
         assert_eq!(rt; found, Some(told), "{changes:?}");
     }
     Ok(())

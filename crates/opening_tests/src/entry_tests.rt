@@ -1,5 +1,5 @@
 // The rules that are tried before an image is opened, on images in which words were changed.
-use crate::ground::{BLOCK, Change, LAST_PAGE, TABLE, image};
+use crate::ground::{BLOCK, Change, EXTENSION, EXTENSIONS, LAST_PAGE, TABLE, image};
 use pm_model::NoMemory;
 use pmem_recover::{EntryError, check_entry};
 use std::alloc::Global;
@@ -27,10 +27,13 @@ const LAST_SEGMENT: u64 = 4_294_999_808;
 
 #[test]
 fn the_first_broken_rule_is_told(rt: HostRuntime) -> Result<(), Fail> {
-    let cases: [(&[Change], Told); 28] = [
+    let cases: [(&[Change], Told); 31] = [
         (&[], None),
         (&[(512, 0)], Some((1, 512))),
-        (&[(513, 2)], Some((2, 513))),
+        (&[(513, 0)], Some((2, 513))),
+        (&[(513, 1)], None),
+        (&[(513, 3)], Some((2, 513))),
+        (&[(513, 9)], Some((2, 513))),
         (&[(514, 1 << 40)], Some((3, 514))),
         (&[(514, (1 << 40) - 1)], None),
         (&[(0, 0)], Some((5, 0))),
@@ -76,7 +79,7 @@ fn the_first_broken_rule_is_told(rt: HostRuntime) -> Result<(), Fail> {
 #[test]
 fn the_first_broken_rule_of_a_table_is_told(rt: HostRuntime) -> Result<(), Fail> {
     let row = 1 << 56;
-    let cases: [(&[Change], Told); 25] = [
+    let cases: [(&[Change], Told); 34] = [
         (&[], None),
         (&[(515, 33)], Some((4, 515))),
         (&[(9, 9)], Some((6, 9))),
@@ -87,6 +90,14 @@ fn the_first_broken_rule_of_a_table_is_told(rt: HostRuntime) -> Result<(), Fail>
         (&[(521, BLOCK + 1)], Some((9, 521))),
         (&[(2056, 0)], Some((9, 520))),
         (&[(2056, 17)], Some((9, 520))),
+        // How many columns stand in the block, which version 1 doesn't say.
+        (&[(2062, 0)], Some((9, 520))),
+        (&[(2062, 2)], Some((9, 520))),
+        (&[(513, 1), (2062, 0)], None),
+        (&[(513, 1), (2062, 9)], None),
+        (&[(513, 1), (2056, 0)], Some((9, 520))),
+        (&[(513, 1), (2056, 17)], Some((9, 520))),
+        (&[(2061, 1)], Some((9, 2061))),
         (&[(2064, 13)], Some((10, 2064))),
         (&[(2065, LAST_PAGE)], None),
         (&[(2065, LAST_PAGE + 1)], Some((10, 2065))),
@@ -96,6 +107,8 @@ fn the_first_broken_rule_of_a_table_is_told(rt: HostRuntime) -> Result<(), Fail>
         (&[(2058, 0)], Some((12, 2058))),
         (&[(2060, 97 << 56)], Some((12, 2060))),
         (&[(2096, 3)], Some((12, 2096))),
+        (&[(2103, 1)], Some((12, 2103))),
+        (&[(513, 1), (2103, 1)], None),
         (&[(2097, 97 + (95 << 8))], None),
         (&[(2097, 97 + (65 << 8))], Some((12, 2097))),
         (&[(1024, 1), (1028, 3 << 56)], Some((15, 1028))),
@@ -105,6 +118,36 @@ fn the_first_broken_rule_of_a_table_is_told(rt: HostRuntime) -> Result<(), Fail>
     ];
     for (changes, told) in cases {
         let found = told_of(rt.alloc(), &[&TABLE, changes])?;
+        assert_eq!(rt; found, Some(told), "{changes:?}");
+    }
+    Ok(())
+}
+
+#[test]
+fn the_first_broken_rule_of_extensions_is_told(rt: HostRuntime) -> Result<(), Fail> {
+    let cases: [(&[Change], Told); 15] = [
+        (&[], None),
+        // A pointer to no extension, one that doesn't lie in its segment, and one that was reached before.
+        (&[(2061, 0)], Some((9, 2061))),
+        (&[(2568, 0)], Some((9, 2568))),
+        (&[(2568, LAST_PAGE + 465)], Some((9, 2568))),
+        (&[(2568, EXTENSION)], Some((9, 2568))),
+        // The pointer after them: null, or one of an extension that isn't published.
+        (&[(2632, 1)], Some((9, 2632))),
+        (&[(2632, LAST_PAGE + 464)], None),
+        (&[(2056, 2)], None),
+        (&[(2056, 2), (2568, 1)], Some((9, 2568))),
+        // The slot is told before the extensions.
+        (&[(2062, 0), (2568, 0)], Some((9, 520))),
+        (&[(2568, 0), (522, 1)], Some((9, 2568))),
+        // Arrays, kinds and names of their columns.
+        (&[(2584, 13)], Some((10, 2584))),
+        (&[(2664, 13)], Some((10, 2664))),
+        (&[(2576, 3)], Some((12, 2576))),
+        (&[(2641, 65)], Some((12, 2641))),
+    ];
+    for (changes, told) in cases {
+        let found = told_of(rt.alloc(), &[&TABLE, &EXTENSIONS, changes])?;
         assert_eq!(rt; found, Some(told), "{changes:?}");
     }
     Ok(())

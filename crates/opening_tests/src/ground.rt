@@ -7,13 +7,14 @@ use test_ground::set_words;
 pub(crate) type Change = (usize, u64);
 
 /// A formatted image with one table `t a:int` without rows and values, whose block is the first slot of page 4.
-pub(crate) const TABLE: [Change; 8] = [
+pub(crate) const TABLE: [Change; 9] = [
     (515, 1),
     (520, BLOCK),
     (4, 6),
     (2048, 1),
     (2056, 1),
     (2058, 116),
+    (2062, 1),
     (2096, 1),
     (2097, 97),
 ];
@@ -27,6 +28,28 @@ pub(crate) const LAST_PAGE: u64 = 4_294_999_552;
 
 /// The pointer to page 5.
 pub(crate) const PAGE_5: u64 = 4_294_969_856;
+
+/// What makes the image with the table one of version 1.
+pub(crate) const FIRST_VERSION: [Change; 2] = [(513, 1), (2062, 0)];
+
+/// Two columns more, `b:text` and `c:int`, in extensions, which are the first two slots of page 5. The rows below 2 have no
+/// word in `b`, and those below 4 have none in `c`.
+pub(crate) const EXTENSIONS: [Change; 11] = [
+    (2056, 3),
+    (2061, EXTENSION),
+    (5, 5),
+    (2560, 3),
+    (2568, EXTENSION + 64),
+    (2576, 2),
+    (2577, 98),
+    (2583, 2),
+    (2640, 1),
+    (2641, 99),
+    (2647, 4),
+];
+
+/// The pointer to the first slot of page 5.
+pub(crate) const EXTENSION: u64 = PAGE_5 + 8;
 
 /// A formatted image of one segment in which words were changed, list by list.
 pub(crate) fn image(alloc: Global, lists: &[&[Change]]) -> Result<Vec<u64>, NoMemory> {

@@ -41,7 +41,14 @@ fn changed_faults(alloc: Global, changes: &[Change]) -> Result<Option<Faults>, N
 }
 
 // A table with one column, whose block is the first slot of page 4, of 128 words.
-const TABLE: [Change; 5] = [(515, 1), (520, 4_294_969_352), (4, 6), (2048, 1), (2056, 1)];
+const TABLE: [Change; 6] = [
+    (515, 1),
+    (520, 4_294_969_352),
+    (4, 6),
+    (2048, 1),
+    (2056, 1),
+    (2062, 1),
+];
 
 // The pointer to the slot of page 6 as a page with one slot.
 const SEGMENT: u64 = 4_294_970_376;

@@ -5,6 +5,7 @@ ghost use Rattle.pm_model.specs.Plain.{device_of};
 ghost use Rattle.pm_model.specs.Plans.{at_rest};
 ghost use Rattle.test_ground.specs.Changed.{with_words};
 
+use image_layout::inner_columns;
 use pm_model::{
     NoMemory, PPtr, Page, Place, Plain, SMALL_PAGE, column, column_count, column_kind, column_name,
     descriptor, fresh, table_count, table_name, table_slot,
@@ -51,7 +52,7 @@ pub fn formatted_memory(alloc: Global, segments: u32) -> Result<Plain, NoMemory>
 }
 
 /// The words that make of a formatted image one with the table `t a:int` without rows and values.
-pub fn one_table() -> [(usize, u64); 8] {
+pub fn one_table() -> [(usize, u64); 9] {
     let a = column(TABLE, 0);
     [
         (table_count().0 as usize, 1),
@@ -59,6 +60,7 @@ pub fn one_table() -> [(usize, u64); 8] {
         (descriptor(Page(4)).0 as usize, SMALL_PAGE + 4),
         (2048, 1),
         (column_count(TABLE).0 as usize, 1),
+        (inner_columns(TABLE).0 as usize, 1),
         (table_name(TABLE).0 as usize, u64::from(b't')),
         (column_kind(a).0 as usize, 1),
         (column_name(a).0 as usize, u64::from(b'a')),
