@@ -12,8 +12,8 @@ use Rattle.image_layout.specs.Blocks.{is_block_pointer}
 use Rattle.image_layout.specs.Tables.{table_count}
 use Rattle.image_layout.specs.Owners.{next_table_slots}
 use Rattle.image_layout.specs.Checks.{Check, check, Keeps}
-use Rattle.image_layout.specs.EntryRules.{table_slot_rule, is_table_slot, is_table_pointer}
-use Rattle.image_layout.proofs.Members.{below-Contains, map-Contains}
+use Rattle.image_layout.specs.EntryRules.{table_slot_checks, table_slot_rule, is_table_slot, is_table_pointer}
+use Rattle.image_layout.proofs.Members.{below-Contains, Contains-here, flat_map-Contains}
 use Rattle.shown_state.specs.Mending.{free_block, free_table, slot_mending}
 use Rattle.pmem_recover.specs.Steps.{step_parts}
 use Rattle.pmem_recover.proofs.Steps.{step-by}
@@ -44,7 +44,9 @@ module _ (words : List ℕ) (tables at : ℕ) (here : at ≡ 515) (is : tables �
 
   slot_check : Keeps words table_slot_rule → is_table_slot words tables ≡ true
   unfolding table_slot_rule
-  slot_check keeps = All-contains (λ (c : Check). IsTrue c.holds) (table_slot_rule words) _ keeps.checks (map-Contains (λ t. check (table_slot_at t) (is_table_slot words t)) (below 32) tables (below-Contains 32 tables lt))
+  slot_check keeps = All-contains (λ (c : Check). IsTrue c.holds) (table_slot_rule words) (check (table_slot_at tables) (is_table_slot words tables)) keeps.checks
+      (flat_map-Contains (table_slot_checks words) (below 32) tables (check (table_slot_at tables) (is_table_slot words tables)) (below-Contains 32 tables lt)
+      (Contains-here (check (table_slot_at tables) (is_table_slot words tables)) _))
 
   -- what rule 9 says of it
   pub slot-pointer : Keeps words table_slot_rule → get_or words slot 0 ≢ 0 → is_block_pointer words (get_or words slot 0) ≡ true

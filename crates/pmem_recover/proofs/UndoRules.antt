@@ -16,6 +16,7 @@ use Rattle.image_layout.specs.EntryRules.{table_count_rule, table_slot_rule, arr
 use Rattle.image_layout.proofs.Members.{below-Contains, map-Contains, flat_map-Contains, filter-Contains, Contains-here, Contains-there, Contains-cons, Contains-nil, Contains-filter}
 use Rattle.pmem_recover.specs.Filled.{is_filled, places_of}
 use Rattle.pmem_recover.specs.Undo.{KeepsUndoRules}
+use Rattle.image_layout.proofs.TableSlots.{one_table}
 use Rattle.shown_state.proofs.LaneMending.{pointer_parts}
 
 module _ (words : List ℕ) (rules : KeepsUndoRules words) where
@@ -24,22 +25,12 @@ module _ (words : List ℕ) (rules : KeepsUndoRules words) where
   pub tables-few : table_count words ≤ 32
   tables-few = leb-true (table_count words) 32 (All-contains (λ (c : Check). IsTrue c.holds) (table_count_rule words) (check table_count_at (leb (table_count words) 32)) rules.table_count.checks (Contains-here (check table_count_at (leb (table_count words) 32)) []))
 
-  slot_check : (table : ℕ) → table < 32 → is_table_slot words table ≡ true
-  unfolding table_slot_rule
-  slot_check table lt = All-contains (λ (c : Check). IsTrue c.holds) (table_slot_rule words) _ rules.table_slots.checks (map-Contains (λ t. check (table_slot_at t) (is_table_slot words t)) (below 32) table (below-Contains 32 table lt))
-
   table_parts : (table : ℕ) → table < table_count words → (is_pointer words (get_or words (table_slot_at table) 0) ≡ true) × (table_block words table + 80 ≤ 32768 * (table_block words table / 32768) + 32768)
   table_parts table lt =
-      let few = tables-few in
-      let word = get_or words (table_slot_at table) 0 in
-      let columns = get_or words (columns_at (place_in word)) 0 in
-      let pointer : is_table_pointer words word ≡ true = sym (cond-true (ltb table (table_count words)) (is_table_pointer words word) _ (lt-ltb table (table_count words) lt)) ∙ slot_check table (omega (arith, lt, few)) in
-      let last = and_parts ((is_pointer words word && leb 1 columns) && leb columns 16) (is_in_segment (place_in word) (table_words columns)) pointer in
-      let middle = and_parts (is_pointer words word && leb 1 columns) (leb columns 16) last.0 in
-      let first = and_parts (is_pointer words word) (leb 1 columns) middle.0 in
-      let one_or_more = leb-true 1 columns first.1 in
-      let inside = leb-true (place_in word % 32768 + table_words columns) 32768 last.1 in
-      (first.0, omega (arith, one_or_more, inside))
+      let points = one_table words table rules.table_count rules.table_slots lt in
+      let some = points.least in
+      let inside = points.in_segment in
+      (points.pointer, omega (arith, some, inside))
 
   pub table-pointer : (table at : ℕ) → table < table_count words → at ≡ table_slot_at table → is_pointer words (get_or words at 0) ≡ true
   table-pointer table at lt is = ap (λ (k : ℕ). is_pointer words (get_or words k 0)) is ∙ (table_parts table lt).0
