@@ -80,16 +80,19 @@ fn create_all<M: Memory>(
     Ok(())
 }
 
-// The count of tables, the first table's slot, its count of rows, and the number of `t`.
-type Seen = (u64, u64, u64, Option<u32>);
+// The version, the count of tables, the first table's slot, how many columns stand in its block and its bound of rows; and the
+// number of `t`.
+type Seen = ([u64; 5], Option<u32>);
 
 fn seen<M: Memory>(rt: &impl Abort, memory: &M, catalog: &Catalog) -> Seen {
-    (
+    let words = [
+        memory.load(Place(513)),
         memory.load(Place(515)),
         memory.load(Place(520)),
+        memory.load(Place(2062)),
         memory.load(Place(2057)),
-        catalog.table(&name(rt, "t")),
-    )
+    ];
+    (words, catalog.table(&name(rt, "t")))
 }
 
 // What is seen once tables of these names are created on a formatted image of two segments.
@@ -114,10 +117,10 @@ const NAMES: [&str; 33] = [
 fn a_table_is_created_once(rt: HostRuntime) {
     let first = 4_294_969_352;
     for (texts, seen) in [
-        (&["t"] as &[&str], Ok((1, first, 0, Some(0)))),
-        (&["s", "t"], Ok((2, first, 0, Some(1)))),
+        (&["t"] as &[&str], Ok(([2, 1, first, 1, 0], Some(0)))),
+        (&["s", "t"], Ok(([2, 2, first, 1, 0], Some(1)))),
         (&["t", "t"], Err(CreateError::TableExists)),
-        (&NAMES[..32], Ok((32, first, 0, Some(19)))),
+        (&NAMES[..32], Ok(([2, 32, first, 1, 0], Some(19)))),
         (&NAMES[..], Err(CreateError::TooManyTables)),
     ] {
         assert_eq!(rt; created(&rt, rt.alloc(), texts), seen);
