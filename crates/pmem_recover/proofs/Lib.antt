@@ -11,3 +11,4 @@ pub mod Steps
 pub mod TableSlot
 pub mod UndoRules
 pub mod Undoing
+pub mod VersionChanges

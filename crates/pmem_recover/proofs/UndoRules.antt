@@ -2,17 +2,17 @@
 use Rattle.std.proofs.Common.{◌≡◌, ⊎_elim, ℕ, ◌+◌, ◌*◌, ◌/◌, ◌%◌, ◌<◌, ◌≤◌, true, not, ◌&&◌, ◌||◌, min, eqb, ltb, leb, List, [], ◌∷◌, length, get_or, All, sym, ◌∙◌, ap, subst, arith}
 use Rattle.std.specs.Prelude.{IsTrue, filter}
 use Rattle.std.specs.List.{Contains, flat_map}
-use Rattle.std.proofs.lemmas.Bool.{and_parts, or_cases, ltb-true, leb-true, lt-ltb, cond-true, both_ways}
+use Rattle.std.proofs.lemmas.Bool.{and_parts, or_cases, ltb-true, leb-true, both_ways}
 use Rattle.std.proofs.lemmas.List.Elements.{All-contains, Contains-get_or}
 use Rattle.image_layout.specs.declared.place.Place.{Place}
 use Rattle.image_layout.specs.Fixed.{table_count_at, table_slot_at}
-use Rattle.image_layout.specs.Records.{columns_at, created_header, ended_header, table_words}
-use Rattle.image_layout.specs.Places.{below, place_in, is_pointer, is_in_segment}
+use Rattle.image_layout.specs.Records.{created_header, ended_header}
+use Rattle.image_layout.specs.Places.{below, place_in, is_pointer}
 use Rattle.image_layout.specs.Arrays.{array_rule, capacity}
 use Rattle.image_layout.specs.Tables.{table_count, table_block, table_blocks, columns_of, column_headers, array_headers}
 use Rattle.image_layout.specs.Objects.{is_open, entry_places, entry_kind, entry_table, entry_row}
 use Rattle.image_layout.specs.Checks.{Check, check, Keeps}
-use Rattle.image_layout.specs.EntryRules.{table_count_rule, table_slot_rule, arrays_rule, entries_rule, is_table_slot, is_table_pointer, is_entry, entry_checks, stamped_capacity}
+use Rattle.image_layout.specs.EntryRules.{table_count_rule, arrays_rule, entries_rule, is_entry, entry_checks, stamped_capacity}
 use Rattle.image_layout.proofs.Members.{below-Contains, map-Contains, flat_map-Contains, filter-Contains, Contains-here, Contains-there, Contains-cons, Contains-nil, Contains-filter}
 use Rattle.pmem_recover.specs.Filled.{is_filled, places_of}
 use Rattle.pmem_recover.specs.Undo.{KeepsUndoRules}

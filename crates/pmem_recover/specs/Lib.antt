@@ -5,3 +5,4 @@ pub mod LaneStep
 pub mod Lanes
 pub mod Steps
 pub mod Undo
+pub mod VersionStep

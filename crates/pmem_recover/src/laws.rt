@@ -9,6 +9,7 @@ ghost use Rattle.shown_state.specs.LaneRules.{KeepsLaneRules, MayMend};
 ghost use Rattle.shown_state.specs.Mending.{lane_mending};
 ghost use Rattle.pmem_recover.specs.EntryRules.{entry_rules};
 ghost use Rattle.pmem_recover.specs.LaneStep.{IsApartImage, lane_step};
+ghost use Rattle.pmem_recover.specs.VersionStep.{version_step};
 
 /// A law for proofs: opening's step of a lane leaves it mended and idle, and a cut of the step is mended to the same words.
 /// Each lane may be mended, whatever a power cut left half done: where the image keeps the rules that every image keeps, and
@@ -26,4 +27,11 @@ pub fn fault_law()
     ensures none { (rules : List Numbered) (words : List ℕ) →
         (first_fault rules words ≡ None) ↔ All (λ rule. Keeps words rule.rule) rules }
     ensures lanes { (words : List ℕ) → first_fault entry_rules words ≡ None → KeepsLaneRules words }
+{}
+
+/// A law for proofs: opening's step from version 1 to version 2, where the image keeps the rules that every image keeps, and
+/// its owner words are apart. Each cut of it has the same tables, with the same columns, and all words but those of the step
+/// as they were; mended again it comes to the same words, which are of version 2. In version 2 it has no part.
+pub fn version_law()
+    ensures { Survives version_step }
 {}

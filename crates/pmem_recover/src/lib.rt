@@ -17,6 +17,8 @@
 //! - `next_slot` frees the block of a table that was being created, and `next_last` raises the last commit number.
 //! - `next_undo` takes back the transactions that are open and have no commit word, `next_idle` closes those that have
 //!   one, and `next_clear` clears the entries and the commit words.
+//! - `next_version` brings an image of version 1 to version 2. What a power cut leaves of its plan shows the same tables and
+//!   columns, and is mended to the same words (`version_law`).
 //!
 //! What a cut can leave: of the mending of a lane words that are mended to the same words (`lane_opening_law`); of the
 //! other steps the table stands in `docs/OPENING.md`.
@@ -34,13 +36,15 @@ mod objects;
 mod part;
 mod slot;
 mod undo;
+mod version;
 
 pub use clear::next_clear;
 pub use entry::check_entry;
 pub use error::EntryError;
 pub use lanes::next_lane;
-pub use laws::{fault_law, lane_opening_law};
+pub use laws::{fault_law, lane_opening_law, version_law};
 pub use objects::{next_idle, next_last};
 pub use pm_model::NoMemory;
 pub use slot::next_slot;
 pub use undo::next_undo;
+pub use version::next_version;
