@@ -3,10 +3,11 @@ ghost use Rattle.std.specs.Prelude.{◌≡◌, ◌≤◌, IfOk, IsTrue, None};
 ghost use Rattle.image_layout.specs.Checks.{first_fault};
 ghost use Rattle.pmem_recover.specs.EntryRules.{entry_rules};
 
-use crate::ground::{BLOCK, Change, PAGE_5, TABLE, image};
+use crate::ground::{BLOCK, Change, FIRST_VERSION, PAGE_5, TABLE, image};
 use pm_model::{Action, Keep, Memory, Place, Plain, Plan, fresh};
 use pmem_recover::{
     NoMemory, check_entry, next_clear, next_idle, next_lane, next_last, next_slot, next_undo,
+    next_version,
 };
 use std::alloc::Global;
 use std::process::Abort;
@@ -37,6 +38,7 @@ enum Step {
     Undo,
     Idle,
     Clear,
+    Version,
 }
 
 // Whether the memory's words keep the rules that are tried before it is opened.
@@ -66,6 +68,7 @@ fn step_plan<M: Memory>(
         Step::Undo => next_undo(alloc, memory, from),
         Step::Idle => next_idle(alloc, memory, from),
         Step::Clear => next_clear(alloc, memory, from),
+        Step::Version => next_version(alloc, memory, from),
     }
 }
 
@@ -508,6 +511,30 @@ fn entries_and_commit_words_are_cleared(rt: HostRuntime) -> Result<(), Fail> {
     Ok(())
 }
 
+const BOTH_WORDS: [Action; 6] = [
+    store!(2062, 1),
+    flush!(257),
+    Action::Fence,
+    store!(513, 2),
+    flush!(64),
+    Action::Fence,
+];
+
+const VERSION_ALONE: [Action; 3] = [store!(513, 2), flush!(64), Action::Fence];
+
+#[test]
+fn version_1_becomes_version_2(rt: HostRuntime) -> Result<(), Fail> {
+    let cases: [Case; 5] = [
+        (&[], 0, Some((0, &BOTH_WORDS))),
+        (&[], 1, None),
+        (&[(2062, 1)], 0, Some((0, &VERSION_ALONE))),
+        (&[(2062, 1), (513, 2)], 0, None),
+        (&[(2062, 9)], 0, Some((0, &BOTH_WORDS))),
+    ];
+    assert_step(&rt, rt.alloc(), Step::Version, &FIRST_VERSION, &cases)?;
+    Ok(())
+}
+
 // The allocation of 80 words on a formatted image through lane 0, whose pointer goes into place 520: page 4 becomes a
 // small page of class 4, and its first slot, at place 2056, is the block. Then the op of its freeing, for which the lane
 // has the two pointers already.
@@ -585,6 +612,41 @@ fn mend_lanes<M: Memory>(rt: &impl Abort, alloc: Global, memory: &mut M) -> Resu
             break;
         };
         from = lane.saturating_add(1);
+    }
+    Ok(())
+}
+
+// What a power cut leaves of the image of version 1 after so many actions of the step to version 2, and then the step anew.
+fn cut_version(
+    rt: &impl Abort,
+    alloc: Global,
+    played: usize,
+    keep: Keep,
+) -> Result<Vec<u64>, NoMemory> {
+    let words = image(alloc, &[&TABLE, &FIRST_VERSION])?;
+    assert_eq!(rt; words.len(), 32768);
+    let mut memory = Plain::new(alloc, words)?;
+    for action in BOTH_WORDS.iter().take(played) {
+        act(rt, &mut memory, 0, *action);
+    }
+    let cut = memory.choose(keep)?;
+    assert_eq!(rt; cut.len(), 32768);
+    let mut opened = Plain::new(alloc, cut)?;
+    if let Some((_, mut plan)) = next_plan(rt, alloc, &opened, Step::Version, 0)? {
+        play(rt, &mut opened, &mut plan);
+    }
+    opened.choose(Keep::Nothing)
+}
+
+#[test]
+fn a_cut_step_to_version_2_is_made_anew(rt: HostRuntime) -> Result<(), Fail> {
+    let alloc = rt.alloc();
+    let second = image(alloc, &[&TABLE])?;
+    for played in 0..=6 {
+        for keep in [Keep::Nothing, Keep::All] {
+            let words = cut_version(&rt, alloc, played, keep)?;
+            assert!(rt; words == second, "{played}");
+        }
     }
     Ok(())
 }

@@ -12,3 +12,8 @@ next_undo-requires g c = entry-undo (g.M.Memory.device c.args.memory.now).cached
 
 pub next_clear-requires : goal.next_clear-requires
 next_clear-requires g c = (entry-undo (g.M.Memory.device c.args.memory.now).cached c.requires).objects
+
+pub next_version-requires : goal.next_version-requires
+next_version-requires g c =
+    let rules = entry-undo (g.M.Memory.device c.args.memory.now).cached c.requires in
+    record { tables = rules.table_count; slots = rules.table_slots }
