@@ -310,10 +310,11 @@ const ENDED: u64 = 2 << 56;
 const DEAD: u64 = u64::MAX;
 
 // A second table, `u a:int`, with a chunk of each array of stamps, and an entry of its row 6.
-const SECOND_TABLE: [Change; 11] = [
+const SECOND_TABLE: [Change; 12] = [
     (515, 2),
     (521, SECOND),
     (2184, 1),
+    (2190, 1),
     (2186, 117),
     (2224, 1),
     (2225, 97),
