@@ -37,9 +37,9 @@ abbrev pub standing : Reply → Transactions → Decision
 standing given now = record { reply = given; copy = given; plan = None; after = now; late = None }
 
 pub stands : (words : List ℕ) (now : Transactions) (said : Call) (given : Reply) (made : Decision) → made ≡ standing given now
-    → IsDecided words now said given [] now → IsPlacedLate words None said given [] → IsDecision words now said made
+    → IsDecided words now said given [] now → IsPlacedLate None said given [] → IsDecision words now said made
 stands words now said given made is decided late =
-    subst (λ (d : Decision). IsDecision words now said d) (sym is) (record { copied = refl; decided = decided; late = late; timed = tt; survives = stands-survives words now decided.stage })
+    subst (λ (d : Decision). IsDecision words now said d) (sym is) (record { copied = refl; decided = decided; late = late; open_still = tt; timed = tt; survives = stands-survives words now decided.stage })
 
 -- what holds anyhow holds where there is an error
 pub anyhow : {T E P : Type 0} (made : Result T E) → P → OnErr made P
@@ -121,8 +121,9 @@ closes words begun own (Ok decision) stage none closed =
     let decided = close-decided words begun own.number own.rows stage (left_of decision.plan) none closed.plan (omega (arith, closed.actions)) in
     record {
       copied = closed.copied;
-      decided = rw (closed.reply, closed.after) decided;
+      decided = rw (closed.reply, closed.after, closed.late) decided;
       late = rw (closed.reply, closed.late) tt;
+      open_still = rw closed.late tt;
       timed = rw closed.late tt;
       survives = rw (closed.after, closed.late) (close-survives words begun own (left_of decision.plan) (record { begun = begun; running = None }) stage none closed.plan decided);
     }

@@ -18,7 +18,7 @@ use Rattle.stage_object.specs.Object.{clear_part, entry_clears}
 use Rattle.engine_core.specs.Stage.{high_at, born_at, ended_at, value_at}
 use Rattle.engine_core.specs.StagePlans.{stamp_part, commit_late, commit_parts, close_parts}
 use Rattle.engine_core.specs.StageRules.{IsStage}
-use Rattle.engine_core.specs.Decided.{IsCommitPlan, IsDecided, IsLateIn}
+use Rattle.engine_core.specs.Decided.{IsDecided, IsLateIn}
 use Rattle.engine_core.specs.LogicalState.{commit_of, commits_in, created_row, key_of, rows_from, rows_where, state_by, state_of}
 use Rattle.engine_core.proofs.Rows.{IsSameUpTo, commits_in-same, commits_in-more, rows_from-same, length-rows_from, length-commits_in, rows_where-interval, rows_where-none}
 use Rattle.engine_core.proofs.States.{creating, commit-answer, commit-next, commit-none, close-next}
@@ -282,18 +282,6 @@ module _ (words : List ℕ) (begun number rows high last : ℕ) (stage : IsStage
   pub commit-timed : (commit late : ℕ) → late ≡ length (plan_of (commit_late rows commit))
       → IsLateIn (state_of words (record { begun = begun; running = Some (record { number = number; rows = rows }) })) (Some (record { number = commit; left = late }))
   commit-timed commit late is_late = is_late ∙ ap (λ (n : ℕ). length (plan_of (commit_late n commit))) (sym (length-rows_from words (get_or words high_at 0) rows))
-
-  -- its plan is that of a commit with the next number
-  pub commit-planned : (commit late : ℕ) (actions : List Action) → commit ≡ last + 1 → actions ≡ plan_of (commit_parts high rows commit) → late ≡ length (plan_of (commit_late rows commit)) → IsCommitPlan words commit late actions
-  commit-planned commit late actions is_commit is_actions is_late = record {
-    first = high;
-    count = rows;
-    plan = subst (IsPlan (length words)) (sym (ap (commit_parts high rows) is_commit ∙ commit_parts-five high rows (last + 1))) commit-plan;
-    plan_is = is_actions;
-    late_is = is_late;
-    next = omega (arith, is_last, is_commit);
-    unset = stage.commit_word;
-  }
 
 -- ── the end of a transaction that wrote nothing ──
 

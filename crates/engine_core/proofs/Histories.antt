@@ -114,3 +114,7 @@ legal-answered state entries one legal = record {
 pub of_one-answered : (entries : List Entry) (one : Entry) → IsOfOne (entries ++ one ∷ []) → IsOfOne (entries ++ answered one ∷ [])
 of_one-answered [] one alone = alone
 of_one-answered (entry ∷ entries) one alone = (alone.0, of_one-answered entries one alone.1)
+
+pub of_one-last : (entries : List Entry) (one : Entry) → IsOfOne (entries ++ one ∷ []) → one.session ≡ 1
+of_one-last [] one alone = alone.0
+of_one-last (entry ∷ entries) one alone = of_one-last entries one alone.1

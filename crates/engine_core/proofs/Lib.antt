@@ -13,6 +13,8 @@ pub mod CoreSteps
 pub mod Movements
 pub mod FreshCore
 pub mod Placing
+pub mod Alone
+pub mod Safeties
 pub mod Played
 pub mod ImageFacts
 pub mod ImageNumbers

@@ -11,7 +11,10 @@ use Rattle.pm_model.specs.Device.{Device, acted}
 use Rattle.engine_core.specs.Decided.{IsFullWhere, IsNoMemoryWhere, IsPlacedLate}
 use Rattle.engine_core.specs.LogicalState.{logical_state}
 use Rattle.engine_core.specs.CoreState.{BecomesDue, CoreState, EndsUnanswered, GetsEntryAtDecision, GetsNumber, GetsReply, IsEntered, IsNumbered, IsPlacedAt, Stays, Unplaced, answered, due, in_flight_of, pending, unanswered}
-use Rattle.engine_core.specs.Kept.{IsOnItsWay}
+use Rattle.side_by_side.specs.SideBySide.{Plans, ArePlaying}
+use Rattle.engine_core.specs.Kept.{HasLeft, IsBounded}
+use Rattle.engine_core.specs.declared.transactions.Transactions.{Transactions}
+use Rattle.engine_core.proofs.Alone.{AreAlone}
 use Rattle.engine_core.proofs.Placing.{placed-at}
 use Rattle.engine_core.specs.declared.decision.Late.{Late}
 use Rattle.engine_core.specs.declared.flight.Flight.{Flight}
@@ -32,40 +35,45 @@ core_of memory opened history in_flight to_play events_left played started = rec
 }
 
 module _ (M : Type 0) (memory after : M) (opened : List ℕ) (history new : List Entry) (to_play left events fewer played more started : ℕ) where
-  pub plays-moves : (d e : Device) (actions rest : List Action) (action : Action) (before placed : Flight) → actions ≡ action ∷ rest → left ≡ length rest → e ≡ acted 1 action d → IsOnItsWay before actions d
-      → IsPlacedAt left before placed history new → length history + pending before ≡ started
+  pub plays-moves : (d e : Device) (actions rest : List Action) (action : Action) (before placed : Flight) (now next_now : Transactions) (plans : Plans) (base : List ℕ)
+      → actions ≡ action ∷ rest → left ≡ length rest → e ≡ acted 1 action d → ArePlaying 17 plans base d → AreAlone plans
+      → HasLeft before now actions d (plans 1) base → IsBounded before actions events
+      → IsPlacedAt left before placed now next_now history new → length history + pending before ≡ started
       → Stays (core_of memory opened history before to_play events played started) (core_of after opened new placed left fewer more started)
       ⊎ GetsNumber d e (core_of memory opened history before to_play events played started) (core_of after opened new placed left fewer more started)
-  plays-moves d e actions rest action flight.Idle placed is size acts way places count = inl (record { in_flight = ap in_flight_of places.0; history = places.1; due = ap (due (length new)) places.0 })
-  plays-moves d e actions rest action (flight.Waiting said) placed is size acts way places count = inl (record { in_flight = ap in_flight_of places.0; history = places.1; due = ap (due (length new)) places.0 })
-  plays-moves d e actions rest action (flight.Committing number late) placed is size acts way (inl places) count = inr (record {
+  plays-moves d e actions rest action flight.Idle placed now next_now plans base is size acts all others way bounded places count =
+      inl (record { in_flight = ap in_flight_of places.0; history = places.2; due = ap (due (length new)) places.0 })
+  plays-moves d e actions rest action (flight.Waiting said) placed now next_now plans base is size acts all others way bounded places count =
+      inl (record { in_flight = ap in_flight_of places.0; history = places.2; due = ap (due (length new)) places.0 })
+  plays-moves d e actions rest action (flight.Committing number late) placed now next_now plans base is size acts all others way bounded (inl places) count = inr (record {
     number = number;
     was_due = ap (λ (n : ℕ). unanswered n call.Commit (reply.Committed number) ∷ []) count;
     entry = record {
       was = refl;
       now = ap in_flight_of places.1;
       due = ap (due (length new)) places.1;
-      history = places.2 ∙ ap (λ (n : ℕ). history ++ unanswered n call.Commit (reply.Committed number) ∷ []) count;
+      history = places.3 ∙ ap (λ (n : ℕ). history ++ unanswered n call.Commit (reply.Committed number) ∷ []) count;
     };
-    at_fence = placed-at number late d e actions rest action is acts (places.0 ∙ size) way;
+    at_fence = placed-at number late now plans base d e actions rest action all is acts bounded.0 way (places.0 ∙ size) started others;
   })
-  plays-moves d e actions rest action (flight.Committing number late) placed is size acts way (inr places) count = inl (record {
+  plays-moves d e actions rest action (flight.Committing number late) placed now next_now plans base is size acts all others way bounded (inr places) count = inl (record {
     in_flight = ap in_flight_of places.1;
-    history = places.2;
-    due = ap (due (length new)) places.1 ∙ ap (λ (h : List Entry). due (length h) (flight.Committing number late)) places.2;
+    history = places.3;
+    due = ap (due (length new)) places.1 ∙ ap (λ (h : List Entry). due (length h) (flight.Committing number late)) places.3;
   })
-  plays-moves d e actions rest action (flight.Placed given) placed is size acts way places count = inl (record { in_flight = ap in_flight_of places.0; history = places.1; due = ap (due (length new)) places.0 })
+  plays-moves d e actions rest action (flight.Placed given) placed now next_now plans base is size acts all others way bounded places count =
+      inl (record { in_flight = ap in_flight_of places.0; history = places.2; due = ap (due (length new)) places.0 })
 
-  not_numbered : (words : List ℕ) (said : Call) (given : Reply) (actions : List Action) → IsPlacedLate words None said given actions → IsNumbered given → ⊥
-  not_numbered words said (reply.Committed number) actions places numbered = places
-  not_numbered words said given actions places numbered = numbered
+  not_numbered : (said : Call) (given : Reply) (actions : List Action) → IsPlacedLate None said given actions → IsNumbered given → ⊥
+  not_numbered said (reply.Committed number) actions places numbered = places
+  not_numbered said given actions places numbered = numbered
 
-  pub decides-moves : (words : List ℕ) (said : Call) (given copy : Reply) (late : Option Late) (entered : Flight) (actions : List Action) → IsPlacedLate words late said given actions
+  pub decides-moves : (said : Call) (given copy : Reply) (late : Option Late) (entered : Flight) (actions : List Action) → IsPlacedLate late said given actions
       → IsEntered late said given copy history new entered → length history + 1 ≡ started → IsFullWhere (state_after (logical_state opened) history) given
       → IsNoMemoryWhere (state_after (logical_state opened) history) said given
       → GetsEntryAtDecision (core_of memory opened history (flight.Waiting said) to_play events played started) (core_of after opened new entered left fewer more started)
       ⊎ BecomesDue (core_of memory opened history (flight.Waiting said) to_play events played started) (core_of after opened new entered left fewer more started)
-  decides-moves words said given copy None entered actions places enters count full memory = inl (record {
+  decides-moves said given copy None entered actions places enters count full memory = inl (record {
     said = said;
     given = given;
     entry = record {
@@ -75,11 +83,11 @@ module _ (M : Type 0) (memory after : M) (opened : List ℕ) (history new : List
       history = enters.0 ∙ ap (λ (n : ℕ). history ++ unanswered n said given ∷ []) count;
     };
     none_due = refl;
-    no_number = not_numbered words said given actions places;
+    no_number = not_numbered said given actions places;
     full = full;
     memory = memory;
   })
-  decides-moves words said (reply.Committed number) copy (Some late) entered actions places enters count full memory =
+  decides-moves said (reply.Committed number) copy (Some late) entered actions places enters count full memory =
       inr (record {
         was = ap Unplaced places.0;
         none_due = refl;
@@ -88,7 +96,7 @@ module _ (M : Type 0) (memory after : M) (opened : List ℕ) (history new : List
         number = late.number;
         due = ap (due (length new)) enters.1 ∙ ap (λ (h : List Entry). due (length h) (flight.Committing late.number late.left)) enters.0 ∙ ap (λ (n : ℕ). unanswered n call.Commit (reply.Committed late.number) ∷ []) count;
       })
-  decides-moves words said given copy (Some late) entered actions places enters count full memory = absurd places
+  decides-moves said given copy (Some late) entered actions places enters count full memory = absurd places
 
   pub replies-moves : (given : Reply) → EndsUnanswered given history → ((front : List Entry) → (last : Entry) → history ≡ front ++ last ∷ [] → new ≡ front ++ answered last ∷ [])
       → GetsReply given (core_of memory opened history (flight.Placed given) to_play events played started) (core_of after opened new flight.Idle left fewer more started)

@@ -1,5 +1,5 @@
 -- A core over the words of an image that was opened.
-use Rattle.std.proofs.Common.{◌≡◌, ⊎_elim, ℕ, ◌≤◌, true, List, [], length, None, Some, Option, refl, sym, ◌∙◌, ap, subst, arith}
+use Rattle.std.proofs.Common.{◌≡◌, inl, ⊎_elim, ℕ, ◌≤◌, true, List, [], length, None, Some, Option, refl, sym, ◌∙◌, ap, subst, arith}
 use Rattle.std.specs.Prelude.{option_map}
 use Rattle.std.proofs.lemmas.Bool.{cases_eq}
 use Rattle.std.proofs.lemmas.List.Elements.{All-nil}
@@ -10,7 +10,7 @@ use Rattle.pm_model.specs.Plans.{at_rest, run, plan_of}
 use Rattle.image_layout.specs.Checks.{Fault, Keeps, first_failing, first_fault, or_else}
 use Rattle.image_layout.proofs.Faults.{all_hold, first_failing-none}
 use Rattle.engine_core.specs.StageRules.{IsStage}
-use Rattle.engine_core.specs.Kept.{IsKept, IsSafe}
+use Rattle.engine_core.specs.Kept.{IsGivenBelow, IsKept, IsSafe, ShowsAfter}
 use Rattle.engine_core.specs.ImageRules.{entry_rules, closing_rules, KeepsEntryRules, IsSound, closed_rule, stamp_rule}
 use Rattle.engine_core.specs.Opening.{opening_fault, opening_parts, recovered}
 use Rattle.engine_core.specs.Opened.{told}
@@ -20,17 +20,15 @@ use Rattle.engine_core.specs.declared.flight.Flight.{Flight}
 use Rattle.engine_core.specs.declared.flight.Flight.TheVariants as flight
 use Rattle.engine_core.specs.declared.transactions.Transactions.{Transactions}
 use Rattle.engine_core.proofs.Recoveries.{fits-now}
-use Rattle.mv_model.specs.View.{next_row_of}
-use Rattle.pm_model.proofs.Words.{ext_words}
-use Rattle.engine_core.specs.Decided.{IsRowBelow}
-use Rattle.engine_core.specs.LogicalState.{state_of}
-use Rattle.engine_core.proofs.RunningCuts.{logical-stage, stage-shows}
+use Rattle.engine_core.specs.LogicalState.{next_row}
+use Rattle.engine_core.proofs.RunningCuts.{logical-stage}
 use Rattle.engine_core.proofs.ImageRules.{entered}
 use Rattle.engine_core.proofs.FitsSound.{closed-is, closed-kept, stamped-is, closed-end, list_entry, accepted-none, entry_list, sound-fits, fits-recoverable}
 use Rattle.engine_core.proofs.FitsCuts.{rules-now}
 use Rattle.engine_core.proofs.OpeningRounds.{opening-end}
 use Rattle.engine_core.proofs.OpeningCuts.{opening-reaches}
-use Rattle.engine_core.proofs.Steps.{under_way-rests}
+use Rattle.side_by_side.specs.SideBySide.{idle}
+use Rattle.side_by_side.proofs.Joining.{holds-rests, playing-rests}
 use Rattle.image_layout.proofs.Faults.{keeps_all, first_fault-none}
 
 -- a sound image is a stage without a transaction
@@ -58,24 +56,28 @@ stage-sound words size sound =
 -- A core begins on a device at rest whose words fit together, with no transaction open.
 kept-rests : (words : List ℕ) → Fits words → IsStage words None → IsKept (at_rest words) words [] (record { begun = 0; running = None }) [] flight.Idle 0 0 0
 kept-rests words fits stage = record {
+  plans = λ session. idle session words;
+  base = words;
+  playing = playing-rests 17 words;
+  others = λ session w apart. refl;
+  plan = refl;
   legal = record { follows = tt; numbered = λ session. refl };
-  legal_due = record { follows = tt; numbered = λ session. refl };
   represents = logical-stage words (record { begun = 0; running = None }) stage;
   stage = stage;
-  under_way = under_way-rests words;
-  commit = tt;
+  safe = holds-rests 17 (IsSafe words [] []) words (λ left none. record {
+    fits = fits;
+    shows = inl refl;
+    decided = All-nil (λ entry. left entry.session ≡ 0 → ShowsAfter words [] words);
+    least = omega arith;
+    given = All-nil (IsGivenBelow left (next_row words));
+    most = omega arith;
+  });
   answers = All-nil (λ entry. entry.answered ≡ true);
   alone = tt;
   count = refl;
   begun = omega arith;
   bounded = refl;
   actions = omega arith;
-  safe = λ image cut.
-      let same = ext_words image words cut.size (λ w. ⊎_elim (λ e. e) (λ e. e) (cut.each w)) in
-      let safe : IsSafe words [] flight.Idle 0 words = (fits, record { same = refl; least = λ table. omega arith; given = λ entry table row has. let none = has.1 in absurd (omega (arith, none)); most = λ table. omega arith }) in
-      subst (λ (i : List ℕ). IsSafe words [] flight.Idle 0 i) (sym same) safe;
-  least = let shows = stage-shows words None stage in let next = shows.1 in omega (arith, next);
-  rows = All-nil (λ entry. IsRowBelow (next_row_of (state_of words (record { begun = 0; running = None })) 0) entry.reply);
   done = record { actions = []; planned = refl; count = refl; device = refl };
   timed = tt;
 }

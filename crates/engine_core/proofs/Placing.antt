@@ -1,47 +1,29 @@
 -- A commit that waits for its place gets it at the fence that makes its commit word durable.
-use Rattle.std.proofs.Common.{◌≡◌, inl, ⊎_elim, ℕ, zero, suc, ◌+◌, ◌-◌, ◌<◌, ◌≤◌, ◌∙◌, Bool, true, false, cond, ltb, List, [], ◌∷◌, ◌++◌, length, get_or, map, take, drop, append_assoc, refl, ap, sym, subst, arith}
-use Rattle.std.proofs.lemmas.Bool.{cases_Bool, cond-true, cond-false, le-ltb, lt-ltb, both_ways, or_parts, or_from}
-use Rattle.std.proofs.lemmas.Grind.{flat_map-append}
+use Rattle.std.proofs.Common.{◌≡◌, inl, ⊎_elim, ℕ, zero, suc, ◌+◌, ◌<◌, ◌≤◌, ◌∙◌, Bool, true, false, cond, List, [], ◌∷◌, ◌++◌, length, get_or, map, take, drop, append_assoc, refl, ap, sym, arith}
+use Rattle.std.proofs.lemmas.Bool.{cases_Bool, both_ways, or_parts, or_from}
 use Rattle.std.proofs.lemmas.List.{length-append, length-drop, take-append-le}
-use Rattle.std.proofs.Math.Seq.{take-append_seam}
 use Rattle.pm_model.specs.declared.action.Action.{Action}
 use Rattle.pm_model.specs.declared.action.Action.TheVariants.{Store, Flush, Fence, Punch}
-use Rattle.pm_model.specs.Device.{Device, acted, writes, IsClean}
+use Rattle.pm_model.specs.Device.{Device, acted, writes}
+use Rattle.pm_model.specs.ManyPlans.{Progress}
 use Rattle.image_layout.specs.declared.place.Place.{Place}
 use Rattle.pm_model.proofs.Words.{get_or-choose_by}
 use Rattle.image_layout.specs.Fixed.{last_at, commit_word_at}
-use Rattle.pm_model.specs.Plans.{Part, Play, IsPlaying, store, one_store, words_after, footprint, part_actions, plan_of, settled, reached, finished, IsPlan, lines_of, part_end}
+use Rattle.pm_model.specs.Plans.{Part, Play, IsPlaying, store, one_store, words_after, footprint, part_actions, plan_of, finished, lines_of, part_end}
 use Rattle.pm_model.proofs.Alone.{length-words_after}
-use Rattle.pm_model.proofs.PlanLaw.{footprint-append, plan_begins, plan_cached, plan_durable, plan_goes_on, words_after-kept, footprint-take}
-use Rattle.pm_model.proofs.Lines.{length-part_actions}
-use Rattle.engine_core.specs.CoreState.{IsAtFence}
-use Rattle.engine_core.specs.Decided.{IsCommitPlan}
+use Rattle.pm_model.proofs.PlanLaw.{footprint-append, plan_cached, words_after-kept, footprint-take}
+use Rattle.side_by_side.specs.SideBySide.{Plans, left_of, advanced, with_plan, ArePlaying}
+use Rattle.mv_model.specs.declared.call.Call.TheVariants as call
+use Rattle.mv_model.specs.declared.reply.Reply.TheVariants as reply
+use Rattle.engine_core.specs.CoreState.{IsAtFence, unanswered}
 use Rattle.engine_core.specs.Kept.{IsCommitting}
 use Rattle.engine_core.specs.Stage.{high_at, born_at}
-use Rattle.engine_core.specs.StagePlans.{stamp_part, commit_early, commit_late, commit_parts}
-use Rattle.engine_core.proofs.Stores.{words_after-plan, get-stored, get-beside, get-run_beside, run-misses}
+use Rattle.engine_core.specs.StagePlans.{stamp_part, commit_early, commit_late}
+use Rattle.engine_core.specs.declared.transactions.Transactions.{Transactions}
+use Rattle.engine_core.proofs.Alone.{AreAlone, alone-with, moved-left, moved-one, moved-playing, rested-cached, rested-clean}
+use Rattle.engine_core.proofs.Stores.{get-stored, get-beside, get-run_beside, run-misses}
 
--- ── at the end of some whole parts ──
-
-settled-early : (early late : List Part) (words : List ℕ) → settled (early ++ late) (length (plan_of early)) words ≡ finished early words
-settled-early [] [] words = refl
-settled-early [] (part ∷ late) words =
-    cond-true (ltb 0 (length (part_actions part))) words (settled late (0 - length (part_actions part)) (words_after part words))
-    (lt-ltb 0 (length (part_actions part)) (let size = length-part_actions part in omega (arith, size)))
-settled-early (part ∷ early) late words =
-    let size = length-append (part_actions part) (plan_of early) in
-    let count : length (part_actions part ++ plan_of early) - length (part_actions part) ≡ length (plan_of early) = omega (arith, size) in
-    cond-false (ltb (length (part_actions part ++ plan_of early)) (length (part_actions part))) words
-    (settled (early ++ late) (length (part_actions part ++ plan_of early) - length (part_actions part)) (words_after part words))
-    (le-ltb (length (part_actions part ++ plan_of early)) (length (part_actions part)) (omega (arith, size)))
-    ∙ ap (λ (k : ℕ). settled (early ++ late) k (words_after part words)) count
-    ∙ settled-early early late (words_after part words)
-
-reached-early : (early late : List Part) (words : List ℕ) → reached (early ++ late) (length (plan_of early)) words ≡ finished early words
-reached-early early late words =
-    ap (λ (xs : List Action). words_after (take (length (plan_of early)) xs) words) (flat_map-append part_actions early late)
-    ∙ ap (λ (xs : List Action). words_after xs words) (take-append_seam (plan_of early) (plan_of late))
-    ∙ words_after-plan early words
+-- ── the next action ──
 
 -- Where as many are left as come after one action, that action is the next.
 at_seam : (xs ys rest : List Action) (n : ℕ) (one action : Action) → drop n (xs ++ one ∷ ys) ≡ action ∷ rest → length rest ≡ length ys → (action ≡ one) × (n ≡ length xs)
@@ -49,6 +31,11 @@ at_seam [] ys rest zero one action left size = (cc, refl)
 at_seam [] ys rest (suc n) one action left size = let all = ap length left in let few = length-drop n ys in absurd (omega (arith, all, few, size))
 at_seam (x ∷ xs) ys rest zero one action left size = let all = ap length left in let many = length-append xs (one ∷ ys) in absurd (omega (arith, all, many, size))
 at_seam (x ∷ xs) ys rest (suc n) one action left size = let later = at_seam xs ys rest n one action left size in (later.0, (let same = later.1 in omega (arith, same)))
+
+-- where more is left than a second half, the next action is of the first
+pub of_first : (xs ys rest : List Action) (action : Action) → xs ++ ys ≡ action ∷ rest → length ys < length (xs ++ ys) → (more : List Action) × (xs ≡ action ∷ more) × (rest ≡ more ++ ys)
+of_first [] ys rest action is more = absurd (omega (arith, more))
+of_first (x ∷ xs) ys rest action is more = (xs, cc, cc)
 
 footprint-right : (xs ys : List Action) (w : ℕ) → footprint ys w ≡ true → footprint (xs ++ ys) w ≡ true
 footprint-right xs ys w hit = ⊎_elim (λ (yes : footprint (xs ++ ys) w ≡ true). yes)
@@ -81,14 +68,10 @@ stamps_miss first count number =
     flushes_miss [] w = refl
     flushes_miss (line ∷ lines) w = flushes_miss lines w
 
--- its commit word and the last commit number are its own
-writes_word : (first count number : ℕ) → footprint (plan_of (commit_parts first count number)) (commit_word_at 0) ≡ true
+-- its first half writes the commit word
+writes_word : (first count number : ℕ) → footprint (plan_of (commit_early first count number)) (commit_word_at 0) ≡ true
 writes_word first count number =
-    footprint-right (part_actions (stamp_part first count number)) (part_actions (one_store (commit_word_at 0) number) ++ plan_of (commit_late count number)) (commit_word_at 0) refl
-
-writes_last : (first count number : ℕ) → footprint (plan_of (commit_parts first count number)) last_at ≡ true
-writes_last first count number =
-    footprint-right (part_actions (stamp_part first count number)) (part_actions (one_store (commit_word_at 0) number) ++ plan_of (commit_late count number)) last_at refl
+    footprint-right (part_actions (stamp_part first count number)) (part_actions (one_store (commit_word_at 0) number) ++ []) (commit_word_at 0) refl
 
 -- what stands there at the fence
 word_then : (first count number : ℕ) (words : List ℕ) → commit_word_at 0 < length words → get_or (finished (commit_early first count number) words) (commit_word_at 0) 0 ≡ number
@@ -103,111 +86,109 @@ last_then first count number words =
 
 -- ── the invariant ──
 
-pub committing-begins : (number late : ℕ) (d : Device) (actions : List Action) → ((w : ℕ) → IsClean d w) → length d.durable ≡ length d.cached → IsCommitPlan d.cached number late actions → IsCommitting number late actions d
-committing-begins number late d actions clean size planned =
-    let parts = commit_parts planned.first planned.count number in
-    let play : Play = record { own = footprint (plan_of parts); session = 1; parts = parts; start = d.cached } in
-    record {
-      play = record { own = footprint (plan_of parts); session = 1; parts = parts; start = d.cached };
-      played = 0;
-      session = refl;
-      playing = subst (λ (l : List Action). IsPlaying play 0 l d) (sym planned.plan_is)
-          (plan_begins play d (record { plan = planned.plan; within = λ w hit. hit })
-          (record { cached_size = refl; durable_size = size; same = λ w own. refl; clean = λ w own. clean w }));
-      first = planned.first;
-      count = planned.count;
-      parts = refl;
-      late_is = planned.late_is;
-      next = planned.next;
-      unset = planned.unset;
-      not_yet = sym (clean (commit_word_at 0)) ∙ planned.unset;
-    }
+module _ (number late : ℕ) (now : Transactions) (plans : Plans) (base : List ℕ) (d after : Device) (left rest : List Action) (action : Action)
+    (all : ArePlaying 17 plans base d) (is : left ≡ action ∷ rest) (acts : after ≡ acted 1 action d)
+    (far : late < length left) (way : IsCommitting number late now left d (plans 1) base) where
+  abbrev mine : Play
+  mine = (plans 1).play
 
-module _ (number late : ℕ) (d after : Device) (left rest : List Action) (action : Action) (is : left ≡ action ∷ rest) (acts : after ≡ acted 1 action d) where
-  goes_on : (way : IsCommitting number late left d) → IsPlaying way.play (way.played + 1) rest after
-  goes_on way =
-      let own : after ≡ acted way.play.session action d = subst (λ (s : ℕ). after ≡ acted s action d) (sym way.session) acts in
-      subst (λ (x : Device). IsPlaying way.play (way.played + 1) rest x) (sym own)
-      (plan_goes_on way.play way.played d action rest (subst (λ (l : List Action). IsPlaying way.play way.played l d) is way.playing))
+  abbrev pub tail : List Action
+  tail = plan_of (commit_late way.halves.count number)
+
+  -- the next action is one of the first half
+  pub next_of : (more : List Action) × (left_of (plans 1) ≡ action ∷ more) × (rest ≡ more ++ tail)
+  next_of = of_first (left_of (plans 1)) tail rest action (sym way.behind ∙ is) (let size = ap length way.behind in let late_is = way.halves.late_is in omega (arith, far, size, late_is))
+
+  playing : IsPlaying mine (plans 1).played (left_of (plans 1)) d
+  playing = all.playing 1 (omega arith)
+
+  own_word : mine.own (commit_word_at 0) ≡ true
+  own_word = playing.playable.within (commit_word_at 0) (ap (λ (ps : List Part). footprint (plan_of ps) (commit_word_at 0)) way.parts ∙ writes_word way.halves.first way.halves.count number)
 
   -- before its last fence the commit word isn't durable
-  not_durable : (one : Action) → left ≡ one ∷ rest → after ≡ acted 1 one d → late < length rest → (way : IsCommitting number late left d) → get_or after.durable (commit_word_at 0) 0 ≡ 0
-  not_durable (Store place value) first by far way = ap (λ (x : Device). get_or x.durable (commit_word_at 0) 0) by ∙ way.not_yet
-  not_durable (Flush line) first by far way = ap (λ (x : Device). get_or x.durable (commit_word_at 0) 0) by ∙ way.not_yet
-  not_durable (Punch page) first by far way = ap (λ (x : Device). get_or x.durable (commit_word_at 0) 0) by ∙ way.not_yet
-  not_durable Fence first by far way =
-      let stamps = part_actions (stamp_part way.first way.count number) in
-      let tail = plan_of (commit_late way.count number) in
-      let all : drop way.played (stamps ++ store (commit_word_at 0) number ∷ Flush 128 ∷ Fence ∷ tail) ≡ Fence ∷ rest =
-      ap (λ (ps : List Part). drop way.played (plan_of ps)) (sym way.parts) ∙ way.playing.rest ∙ first in
-      let late_is = way.late_is in
-      let within = before_seam stamps tail rest way.played (record { 0 = commit_word_at 0 }) number 128 all (omega (arith, far, late_is)) in
-      let own_word = way.playing.playable.within (commit_word_at 0) (ap (λ (ps : List Part). footprint (plan_of ps) (commit_word_at 0)) way.parts ∙ writes_word way.first way.count number) in
-      let short : take way.played (plan_of way.play.parts) ≡ take way.played stamps =
-      ap (λ (ps : List Part). take way.played (plan_of ps)) way.parts
-      ∙ take-append-le way.played stamps (store (commit_word_at 0) number ∷ Flush 128 ∷ Fence ∷ tail) within in
+  not_durable : (one : Action) → action ≡ one → late < length rest → get_or after.durable (commit_word_at 0) 0 ≡ 0
+  not_durable (Store place value) same more = ap (λ (x : Device). get_or x.durable (commit_word_at 0) 0) (acts ∙ ap (λ (a : Action). acted 1 a d) same) ∙ way.not_yet
+  not_durable (Flush line) same more = ap (λ (x : Device). get_or x.durable (commit_word_at 0) 0) (acts ∙ ap (λ (a : Action). acted 1 a d) same) ∙ way.not_yet
+  not_durable (Punch page) same more = ap (λ (x : Device). get_or x.durable (commit_word_at 0) 0) (acts ∙ ap (λ (a : Action). acted 1 a d) same) ∙ way.not_yet
+  not_durable Fence same more =
+      let first = way.halves.first in
+      let count = way.halves.count in
+      let stamps = part_actions (stamp_part first count number) in
+      let next = next_of in
+      let all_left : drop (plans 1).played (stamps ++ store (commit_word_at 0) number ∷ Flush 128 ∷ Fence ∷ []) ≡ Fence ∷ next.0 =
+      ap (λ (ps : List Part). drop (plans 1).played (plan_of ps)) (sym way.parts) ∙ next.1 ∙ ap (λ (a : Action). a ∷ next.0) same in
+      let late_is = way.halves.late_is in
+      let size = ap length next.2 ∙ length-append next.0 tail in
+      let within = before_seam stamps [] next.0 (plans 1).played (record { 0 = commit_word_at 0 }) number 128 all_left (omega (arith, more, late_is, size)) in
+      let short : take (plans 1).played (plan_of mine.parts) ≡ take (plans 1).played stamps =
+      ap (λ (ps : List Part). take (plans 1).played (plan_of ps)) way.parts
+      ∙ take-append-le (plans 1).played stamps (store (commit_word_at 0) number ∷ Flush 128 ∷ Fence ∷ []) within in
       let cached : get_or d.cached (commit_word_at 0) 0 ≡ 0 =
-      plan_cached way.play way.played d left way.playing (commit_word_at 0) own_word
-      ∙ ap (λ (xs : List Action). get_or (words_after xs way.play.start) (commit_word_at 0) 0) short
-      ∙ words_after-kept (take way.played stamps) way.play.start (commit_word_at 0) (footprint-take way.played stamps (commit_word_at 0) (stamps_miss way.first way.count number))
-      ∙ way.unset in
-      let word = get_or-choose_by (d.flushed 1) d.cached d.durable (way.playing.looks.cached_size ∙ sym way.playing.looks.durable_size) (commit_word_at 0) in
-      ap (λ (x : Device). get_or x.durable (commit_word_at 0) 0) by ∙ word
+      plan_cached mine (plans 1).played d (left_of (plans 1)) playing (commit_word_at 0) own_word
+      ∙ ap (λ (xs : List Action). get_or (words_after xs mine.start) (commit_word_at 0) 0) short
+      ∙ words_after-kept (take (plans 1).played stamps) mine.start (commit_word_at 0) (footprint-take (plans 1).played stamps (commit_word_at 0) (stamps_miss first count number))
+      ∙ sym (all.own 1 (commit_word_at 0) (omega arith) own_word)
+      ∙ way.halves.unset in
+      let word = get_or-choose_by (d.flushed 1) d.cached d.durable (sym all.whole) (commit_word_at 0) in
+      ap (λ (x : Device). get_or x.durable (commit_word_at 0) 0) (acts ∙ ap (λ (a : Action). acted 1 a d) same) ∙ word
       ∙ either (d.flushed 1 (commit_word_at 0)) (get_or d.cached (commit_word_at 0) 0) (get_or d.durable (commit_word_at 0) 0) cached way.not_yet
     where
       either : (b : Bool) (x y : ℕ) → x ≡ 0 → y ≡ 0 → cond b x y ≡ 0
       either true x y p q = p
       either false x y p q = q
 
-  pub committing-plays : late < length rest → IsCommitting number late left d → IsCommitting number late rest after
-  committing-plays far way = record {
-    play = way.play;
-    played = way.played + 1;
-    session = way.session;
-    playing = goes_on way;
-    first = way.first;
-    count = way.count;
-    parts = way.parts;
-    late_is = way.late_is;
-    next = way.next;
-    unset = way.unset;
-    not_yet = not_durable action is acts far way;
-  }
-
-  pub placed-at : late ≡ length rest → IsCommitting number late left d → IsAtFence number d after
-  placed-at size way =
-      let first = way.first in
-      let count = way.count in
-      let start = way.play.start in
-      let early = commit_early first count number in
-      let tail = commit_late count number in
-      let stamps = part_actions (stamp_part first count number) in
-      let front = store (commit_word_at 0) number ∷ Flush 128 ∷ [] in
-      let all : drop way.played ((stamps ++ front) ++ Fence ∷ plan_of tail) ≡ action ∷ rest =
-      ap (drop way.played) (append_assoc stamps front (Fence ∷ plan_of tail))
-      ∙ ap (λ (ps : List Part). drop way.played (plan_of ps)) (sym way.parts) ∙ way.playing.rest ∙ is in
-      let seam = at_seam (stamps ++ front) (plan_of tail) rest way.played Fence action all (sym size ∙ way.late_is) in
-      let short = length-append stamps front in
-      let long = length-append stamps (store (commit_word_at 0) number ∷ Flush 128 ∷ Fence ∷ []) in
-      let same = seam.1 in
-      let at : way.played + 1 ≡ length (plan_of early) = omega (arith, same, short, long) in
-      let playing = goes_on way in
-      let is_settled : settled way.play.parts (way.played + 1) start ≡ finished early start =
-      ap (λ (ps : List Part). settled ps (way.played + 1) start) way.parts ∙ ap (λ (k : ℕ). settled (early ++ tail) k start) at ∙ settled-early early tail start in
-      let is_reached : reached way.play.parts (way.played + 1) start ≡ finished early start =
-      ap (λ (ps : List Part). reached ps (way.played + 1) start) way.parts ∙ ap (λ (k : ℕ). reached (early ++ tail) k start) at ∙ reached-early early tail start in
-      let plan = subst (λ (ps : List Part). IsPlan (length start) ps) way.parts way.playing.playable.plan in
-      let word = word_then first count number start plan.1.0.1 in
-      let own_word = way.playing.playable.within (commit_word_at 0) (ap (λ (ps : List Part). footprint (plan_of ps) (commit_word_at 0)) way.parts ∙ writes_word first count number) in
-      let own_last = way.playing.playable.within last_at (ap (λ (ps : List Part). footprint (plan_of ps) last_at) way.parts ∙ writes_last first count number) in
-      let last = plan_cached way.play (way.played + 1) after rest playing last_at own_last ∙ ap (λ (l : List ℕ). get_or l last_at 0) is_reached ∙ last_then first count number start in
-      let next = way.next in
+  -- it goes on up to the fence
+  pub committing-plays : late < length rest → IsCommitting number late now rest after (with_plan plans 1 (advanced (plans 1)) 1) base
+  committing-plays more =
+      let next = next_of in
+      let one = moved-one plans base d after action next.0 all next.1 acts in
       record {
-        fence = acts ∙ ap (λ (a : Action). acted 1 a d) seam.0;
-        was = way.not_yet;
-        commit_word = ⊎_elim
-            (λ e. e ∙ ap (λ (l : List ℕ). get_or l (commit_word_at 0) 0) is_settled ∙ word)
-            (λ e. e ∙ ap (λ (l : List ℕ). get_or l (commit_word_at 0) 0) is_reached ∙ word)
-            (plan_durable way.play (way.played + 1) after rest playing (commit_word_at 0) own_word);
-        last = omega (arith, last, next);
+        actions = way.actions;
+        decided = way.decided;
+        halves = way.halves;
+        parts = ap (λ (p : Progress). p.play.parts) one ∙ way.parts;
+        behind = next.2 ∙ ap (λ (xs : List Action). xs ++ tail) (sym (moved-left plans base d after action next.0 all next.1 acts));
+        not_yet = not_durable action refl more;
       }
+
+  module _ (at : late ≡ length rest) where
+    -- at the fence nothing is left of the first half
+    pub first-over : (left_of (plans 1) ≡ action ∷ []) × (rest ≡ tail)
+    first-over =
+        let next = next_of in
+        let late_is = way.halves.late_is in
+        let size = ap length next.2 ∙ length-append next.0 tail in
+        let none = nothing next.0 (omega (arith, at, late_is, size)) in
+        (next.1 ∙ ap (λ (xs : List Action). action ∷ xs) none, next.2 ∙ ap (λ (xs : List Action). xs ++ tail) none)
+      where
+        nothing : (xs : List Action) → length xs ≡ 0 → xs ≡ []
+        nothing [] none = refl
+        nothing (x ∷ xs) none = absurd (omega (arith, none))
+
+    pub placed-at : (ordinal : ℕ) → AreAlone plans → IsAtFence (unanswered ordinal call.Commit (reply.Committed number)) number d after
+    placed-at ordinal others =
+        let first = way.halves.first in
+        let count = way.halves.count in
+        let stamps = part_actions (stamp_part first count number) in
+        let front = store (commit_word_at 0) number ∷ Flush 128 ∷ [] in
+        let over = first-over in
+        let all_left : drop (plans 1).played ((stamps ++ front) ++ Fence ∷ []) ≡ action ∷ [] =
+        ap (drop (plans 1).played) (append_assoc stamps front (Fence ∷ [])) ∙ ap (λ (ps : List Part). drop (plans 1).played (plan_of ps)) (sym way.parts) ∙ over.0 in
+        let seam = at_seam (stamps ++ front) [] [] (plans 1).played Fence action all_left refl in
+        let further = moved-playing plans base d after action [] all over.0 acts in
+        let one = moved-one plans base d after action [] all over.0 acts in
+        let none = moved-left plans base d after action [] all over.0 acts in
+        let next_plans = with_plan plans 1 (advanced (plans 1)) in
+        let alone = alone-with plans (advanced (plans 1)) others in
+        let words : finished (commit_early first count number) base ≡ after.cached =
+        ap (λ (ps : List Part). finished ps base) (sym way.parts) ∙ ap (λ (p : Progress). finished p.play.parts base) (sym one) ∙ rested-cached next_plans base after further alone none in
+        let plan = way.halves.plan in
+        let word : get_or after.cached (commit_word_at 0) 0 ≡ number = ap (λ (ws : List ℕ). get_or ws (commit_word_at 0) 0) (sym words) ∙ word_then first count number base plan.1.0.1 in
+        let last : get_or after.cached last_at 0 ≡ get_or base last_at 0 = ap (λ (ws : List ℕ). get_or ws last_at 0) (sym words) ∙ last_then first count number base in
+        let next = way.halves.next in
+        record {
+          fence = acts ∙ ap (λ (a : Action). acted 1 a d) seam.0;
+          was = way.not_yet;
+          decided = sym (rested-clean next_plans base after further alone none (commit_word_at 0)) ∙ word;
+          last = omega (arith, last, next);
+        }

@@ -1,5 +1,5 @@
 -- Which actions a core has played, and when a commit is certain.
-use Rattle.std.proofs.Common.{◌≡◌, inl, inr, ℕ, ◌+◌, ◌<◌, ◌≤◌, ◌∙◌, List, [], ◌∷◌, ◌++◌, length, take, Option, None, Some, refl, ap, sym, subst, append-nil, append_assoc, length-append, arith}
+use Rattle.std.proofs.Common.{◌≡◌, inl, inr, ℕ, ◌+◌, ◌≤◌, ◌∙◌, List, [], ◌∷◌, ◌++◌, length, take, None, refl, ap, sym, subst, append-nil, append_assoc, length-append, arith}
 use Rattle.std.proofs.lemmas.List.{same_from_push}
 use Rattle.mv_model.specs.declared.call.Call.{Call}
 use Rattle.mv_model.specs.declared.reply.Reply.{Reply}
@@ -11,7 +11,7 @@ use Rattle.mv_model.specs.History.{state_after}
 use Rattle.pm_model.specs.declared.action.Action.{Action}
 use Rattle.pm_model.specs.Device.{Device, acted}
 use Rattle.pm_model.specs.Plans.{at_rest, run}
-use Rattle.engine_core.specs.Actions.{late_in, plan_due, plan_in}
+use Rattle.engine_core.specs.Actions.{plan_due, plan_in}
 use Rattle.engine_core.specs.CoreState.{EndsCertain, IsCertain, IsDueAt, answered, due}
 use Rattle.engine_core.specs.Decided.{IsPlacedLate}
 use Rattle.engine_core.specs.Kept.{HasPlayed, IsBounded, IsTimed}
@@ -97,9 +97,9 @@ certain-none state (reply.Committed number) = omega arith
 certain-none state given = tt
 
 -- a call that has its place at its decision isn't a commit with a number
-pub certain-now : (words : List ℕ) (said : Call) (given : Reply) (actions : List Action) (state : State) (count : ℕ) → IsPlacedLate words None said given actions → IsCertain state given count
-certain-now words said (reply.Committed number) actions state count places = absurd places
-certain-now words said given actions state count places = tt
+pub certain-now : (said : Call) (given : Reply) (actions : List Action) (state : State) (count : ℕ) → IsPlacedLate None said given actions → IsCertain state given count
+certain-now said (reply.Committed number) actions state count places = absurd places
+certain-now said given actions state count places = tt
 
 pub ends-certain : (opened : State) (history : List Entry) (entry : Entry) (count : ℕ) → IsCertain (state_after opened history) entry.reply count → EndsCertain opened (history ++ entry ∷ []) count
 ends-certain opened history entry count is = λ front last same.

@@ -1,9 +1,9 @@
 -- Each event keeps what a core keeps.
-use Rattle.std.proofs.Common.{◌≡◌, ◌≢◌, inl, inr, ⊎_elim, ℕ, ◌+◌, ◌<◌, ◌≤◌, ◌∙◌, Bool, true, false, List, [], ◌∷◌, ◌++◌, length, get_or, Option, None, Some, refl, ap, sym, subst, append-nil, arith}
-use Rattle.std.specs.Prelude.{All, IsTrue}
-use Rattle.std.proofs.lemmas.Bool.{cases_Bool, cases_lt, cond-true, cond-false}
+use Rattle.std.proofs.Common.{◌≡◌, ◌≢◌, inl, inr, ℕ, ◌+◌, ◌<◌, ◌≤◌, ◌∙◌, true, false, List, [], ◌∷◌, ◌++◌, length, Option, None, Some, refl, ap, sym, subst, append-nil, arith}
+use Rattle.std.specs.Prelude.{IsTrue}
+use Rattle.std.proofs.lemmas.Grind.{flat_map-append}
 use Rattle.std.proofs.lemmas.List.{length-append}
-use Rattle.std.proofs.lemmas.List.Elements.{All-append, All-cons, All-head, All-nil, All-push, All-weaker}
+use Rattle.std.proofs.lemmas.List.Elements.{All-append, All-cons, All-nil}
 use Rattle.mv_model.specs.declared.call.Call.{Call}
 use Rattle.mv_model.specs.declared.call.Call.TheVariants as call
 use Rattle.mv_model.specs.declared.reply.Reply.{Reply}
@@ -12,130 +12,84 @@ use Rattle.mv_model.specs.declared.reply.Entry.{Entry}
 use Rattle.mv_model.specs.State.{State}
 use Rattle.mv_model.specs.History.{IsAllowed, IsLegal, state_after}
 use Rattle.mv_model.specs.Next.{next}
-use Rattle.pm_model.specs.declared.action.Action.{Action}
-use Rattle.pm_model.specs.declared.action.Action.TheVariants.{Store, Flush, Fence, Punch}
-use Rattle.pm_model.specs.Device.{Device, acted, CanAct, IsClean, IsCrashImage, writes}
-use Rattle.pm_model.specs.Plans.{Play, Part, IsPlaying, IsPlan, words_after, plan_of, footprint, at_rest}
-use Rattle.pm_model.proofs.Words.{cached_after-kept, ext_words, get_or-choose_by}
-use Rattle.pm_model.proofs.PlanLaw.{plan_begins, plan_can_act, plan_goes_on, plan_owns, plan_ends}
 use Rattle.mv_model.specs.View.{next_row_of}
+use Rattle.pm_model.specs.declared.action.Action.{Action}
+use Rattle.pm_model.specs.Device.{Device, acted, CanAct}
+use Rattle.pm_model.specs.ManyPlans.{Progress}
+use Rattle.pm_model.specs.Plans.{Part, IsPlan, EachCut, finished, part_actions, plan_of, words_after}
+use Rattle.pm_model.proofs.Cuts.{each_cut-end, each_cut-start}
+use Rattle.pm_model.proofs.Words.{ext_words}
+use Rattle.image_layout.specs.Fixed.{commit_word_at}
+use Rattle.side_by_side.specs.SideBySide.{Plans, left_of, advanced, ArePlaying, HoldsAtEachCut}
+use Rattle.side_by_side.proofs.Cutting.{can-act, holds-now}
+use Rattle.side_by_side.proofs.Joining.{holds-map}
 use Rattle.engine_core.specs.Actions.{late_in, plan_due}
 use Rattle.engine_core.specs.Recoverable.{Fits}
-use Rattle.engine_core.specs.Survival.{IsShown, IsShownWhile, SurvivesCuts}
-use Rattle.engine_core.specs.Decided.{IsCommitPlan, IsDecided, IsLateIn, IsPlacedLate, IsRowBelow}
-use Rattle.engine_core.specs.LogicalState.{logical_state, state_of}
+use Rattle.engine_core.specs.Survival.{IsShown, IsShownUntil, IsSurvived, SurvivesCuts, SurvivesInHalves}
+use Rattle.engine_core.specs.Decided.{IsDecided, IsLateIn, IsOpenStill, IsPlacedLate, at_place, none_open}
+use Rattle.engine_core.specs.LogicalState.{logical_state, next_row, state_of}
+use Rattle.engine_core.specs.StagePlans.{commit_early, commit_late}
+use Rattle.engine_core.specs.StageRules.{IsStage}
 use Rattle.engine_core.specs.CoreState.{due, IsEntered, IsOfOne, IsPlacedAt, Nothing, answered, in_flight_of, unanswered}
-use Rattle.engine_core.specs.Kept.{HasPlayed, IsKept, IsSafe, IsUnderWay}
+use Rattle.engine_core.specs.Kept.{HasPlayed, IsKept, IsSafe, has_place, standing}
 use Rattle.engine_core.specs.Served.{is_served}
 use Rattle.engine_core.specs.declared.decision.Late.{Late}
 use Rattle.engine_core.specs.declared.flight.Flight.{Flight}
 use Rattle.engine_core.specs.declared.flight.Flight.TheVariants as flight
 use Rattle.engine_core.specs.declared.transactions.Transactions.{Transactions}
-use Rattle.engine_core.proofs.ImageFacts.{all-left, all-right}
+use Rattle.engine_core.proofs.Alone.{alone-with, joined, joined-alone, joined-holds, joined-one, joined-playing, joined-stands, moved, moved-holds, moved-left, moved-one, moved-playing, moved-stands, rested, rested-cached, rested-clean, rested-holds, rested-idle, rested-playing, rested-stands, stands-waiting, survives-alone}
+use Rattle.engine_core.proofs.Histories.{legal-answered, legal-more, of_one-answered, of_one-last, of_one-more, state_after-answered, state_after-more}
+use Rattle.engine_core.proofs.Placing.{committing-plays, first-over, next_of}
 use Rattle.engine_core.proofs.Played.{certain-less, certain-now, ends-certain, played-answered, played-decided, played-more}
-use Rattle.engine_core.proofs.Recoveries.{given-all, given-more, recovers, recovers-more, row-below}
-use Rattle.engine_core.proofs.Survivals.{holds-end, holds-map, holds-now, holds-plays, rest-shown, survives-holds}
-use Rattle.engine_core.proofs.Placing.{committing-begins, committing-plays}
-use Rattle.engine_core.proofs.Histories.{legal-answered, legal-more, of_one-answered, of_one-more, state_after-answered, state_after-more}
-
--- ── one action ──
-
-pub under_way-can : (d : Device) (left rest : List Action) (action : Action) → left ≡ action ∷ rest → IsUnderWay left d → CanAct action d
-under_way-can d left rest action is way =
-    plan_can_act way.play way.played d action rest (subst (λ (l : List Action). IsPlaying way.play way.played l d) is way.playing)
-
--- a clean word that an action doesn't write stays clean
-clean_kept : (session : ℕ) (action : Action) (d : Device) (w : ℕ) → length d.cached ≡ length d.durable → writes action w ≡ false → IsClean d w → IsClean (acted session action d) w
-clean_kept session (Store place value) d w same miss clean = cached_after-kept (Store place value) d.cached w miss ∙ clean
-clean_kept session (Flush line) d w same miss clean = clean
-clean_kept session (Punch page) d w same miss clean = cached_after-kept (Punch page) d.cached w miss ∙ clean
-clean_kept session Fence d w same miss clean =
-    let word = get_or-choose_by (d.flushed session) d.cached d.durable same w in
-    ⊎_elim (λ (hit : d.flushed session w ≡ true). sym (word ∙ cond-true (d.flushed session w) (get_or d.cached w 0) (get_or d.durable w 0) hit))
-    (λ (out : d.flushed session w ≡ false). clean ∙ sym (word ∙ cond-false (d.flushed session w) (get_or d.cached w 0) (get_or d.durable w 0) out))
-    (cases_Bool (d.flushed session w))
-
-pub under_way-plays : (d after : Device) (left rest : List Action) (action : Action) → left ≡ action ∷ rest → after ≡ acted 1 action d → IsUnderWay left d → IsUnderWay rest after
-under_way-plays d after left rest action is acts way =
-    let playing = subst (λ (l : List Action). IsPlaying way.play way.played l d) is way.playing in
-    let own : after ≡ acted way.play.session action d = subst (λ (s : ℕ). after ≡ acted s action d) (sym way.session) acts in
-    record {
-      play = way.play;
-      played = way.played + 1;
-      session = way.session;
-      playing = subst (λ (x : Device). IsPlaying way.play (way.played + 1) rest x) (sym own) (plan_goes_on way.play way.played d action rest playing);
-      rest = λ w apart. subst (λ (x : Device). IsClean x w) (sym acts)
-          (clean_kept 1 action d w (way.playing.looks.cached_size ∙ sym way.playing.looks.durable_size)
-          (⊎_elim (λ (hit : writes action w ≡ true). absurd (both (way.play.own w) apart (plan_owns way.play way.played d action rest playing w hit))) (λ miss. miss) (cases_Bool (writes action w)))
-          (way.rest w apart));
-    }
-  where
-    both : (b : Bool) → b ≡ false → b ≡ true → ⊥
-    both b no_ yes_ = cc
-
-pub words-played : (d after : Device) (left rest : List Action) (action : Action) → left ≡ action ∷ rest → after ≡ acted 1 action d → words_after rest after.cached ≡ words_after left d.cached
-words-played d after left rest action is acts =
-    ap (λ (x : Device). words_after rest x.cached) acts ∙ ap (λ (l : List Action). words_after l d.cached) (sym is)
-
--- ── a new plan ──
-
--- with nothing left, each word is clean
-pub all-clean : (d : Device) (left : List Action) → left ≡ [] → IsUnderWay left d → (w : ℕ) → IsClean d w
-all-clean d left is way w = ⊎_elim
-    (λ own. (plan_ends way.play way.played d (subst (λ (l : List Action). IsPlaying way.play way.played l d) is way.playing)).clean w own)
-    (λ apart. way.rest w apart) (cases_Bool (way.play.own w))
-
-pub under_way-begins : (d : Device) (before : List Action) (parts : List Part) → before ≡ [] → IsUnderWay before d → IsPlan (length d.cached) parts → IsUnderWay (plan_of parts) d
-under_way-begins d before parts is way plan =
-    let clean = all-clean d before is way in
-    let play : Play = record { own = footprint (plan_of parts); session = 1; parts = parts; start = d.cached } in
-    record {
-      play = record { own = footprint (plan_of parts); session = 1; parts = parts; start = d.cached };
-      played = 0;
-      session = refl;
-      playing = plan_begins play d (record { plan = plan; within = λ w hit. hit })
-          (record { cached_size = refl; durable_size = way.playing.looks.durable_size ∙ sym way.playing.looks.cached_size; same = λ w own. refl; clean = λ w own. clean w });
-      rest = λ w apart. clean w;
-    }
-
--- a device at rest
-pub under_way-rests : (words : List ℕ) → IsUnderWay [] (at_rest words)
-under_way-rests words =
-    let play : Play = record { own = λ w. false; session = 1; parts = []; start = words } in
-    record {
-      play = record { own = λ w. false; session = 1; parts = []; start = words };
-      played = 0;
-      session = refl;
-      playing = plan_begins play (at_rest words) (record { plan = tt; within = λ w hit. hit })
-          (record { cached_size = refl; durable_size = refl; same = λ w own. refl; clean = λ w own. refl });
-      rest = λ w apart. refl;
-    }
-
--- ── the core's steps ──
+use Rattle.engine_core.proofs.RunningCuts.{stage-shows}
+use Rattle.engine_core.proofs.Safeties.{answered-safe, certain-safe, decided-ends, decided-safe, placed-safe, until-ends, until-safe}
+use Rattle.engine_core.proofs.Stores.{words_after-plan}
 
 module _ (opened : List ℕ) where
+  -- ── one action ──
+
+  -- the next action is the next one of the session's plan
+  next_action : (d : Device) (history : List Entry) (now : Transactions) (left rest : List Action) (action : Action) (in_flight : Flight) (events played started : ℕ)
+      → left ≡ action ∷ rest → (kept : IsKept d opened history now left in_flight events played started)
+      → (more : List Action) × (left_of (kept.plans 1) ≡ action ∷ more)
+  next_action d history now left rest action flight.Idle events played started is kept = (rest, sym kept.plan ∙ is)
+  next_action d history now left rest action (flight.Waiting said) events played started is kept = (rest, sym kept.plan ∙ is)
+  next_action d history now left rest action (flight.Committing number late) events played started is kept =
+      let next = next_of number late now kept.plans kept.base d (acted 1 action d) left rest action kept.playing is refl kept.bounded.0 kept.plan in
+      (next.0, next.1)
+  next_action d history now left rest action (flight.Placed given) events played started is kept = (rest, sym kept.plan ∙ is)
+
+  -- it may be played
+  pub can : (d : Device) (history : List Entry) (now : Transactions) (left rest : List Action) (action : Action) (in_flight : Flight) (events played started : ℕ)
+      → left ≡ action ∷ rest → IsKept d opened history now left in_flight events played started → CanAct action d
+  can d history now left rest action in_flight events played started is kept =
+      let next = next_action d history now left rest action in_flight events played started is kept in
+      can-act 17 kept.plans kept.base 1 (omega arith) d kept.playing action next.0 next.1
+
   -- nothing but the events that are left changes for a call that has its place
   plays_placed : (d after : Device) (history : List Entry) (now : Transactions) (left rest : List Action) (action : Action) (given : Reply) (events fewer played started : ℕ)
       → left ≡ action ∷ rest → after ≡ acted 1 action d → events ≡ fewer + 1
       → IsKept d opened history now left (flight.Placed given) events played started → IsKept after opened history now rest (flight.Placed given) fewer (played + 1) started
   plays_placed d after history now left rest action given events fewer played started is acts one kept =
-      let words = words-played d after left rest action is acts in
+      let first : left_of (kept.plans 1) ≡ action ∷ rest = sym kept.plan ∙ is in
+      let same : standing (moved kept.plans kept.base d after action rest kept.playing first acts) [] kept.base ≡ standing kept.plans [] kept.base =
+      moved-stands kept.plans kept.base d after action rest kept.playing first acts (has_place []) in
       record {
+        plans = moved kept.plans kept.base d after action rest kept.playing first acts;
+        base = kept.base;
+        playing = moved-playing kept.plans kept.base d after action rest kept.playing first acts;
+        others = alone-with kept.plans (advanced (kept.plans 1)) kept.others;
+        plan = sym (moved-left kept.plans kept.base d after action rest kept.playing first acts);
         legal = kept.legal;
-        legal_due = kept.legal_due;
-        represents = kept.represents ∙ ap (λ (ws : List ℕ). state_of ws now) (sym words);
-        stage = rw words kept.stage;
-        under_way = under_way-plays d after left rest action is acts kept.under_way;
-        commit = tt;
+        represents = kept.represents ∙ ap (λ (ws : List ℕ). state_of ws now) (sym same);
+        stage = subst (λ (ws : List ℕ). IsStage ws now.running) (sym same) kept.stage;
+        safe = moved-holds kept.plans kept.base d after action rest kept.playing first acts (IsSafe opened history []) kept.safe;
         answers = kept.answers;
         alone = kept.alone;
         count = kept.count;
         begun = kept.begun;
         bounded = let below = kept.bounded in let size = ap length is in omega (arith, below, size, one);
         actions = let a = kept.actions in omega (arith, a, one);
-        safe = holds-plays (IsSafe opened history (flight.Placed given)) d after left rest action is acts kept.safe;
-        least = rw words kept.least;
-        rows = rw words kept.rows;
         done = played-more kept.done after rest action is acts;
         timed = λ front last same. certain-less (state_after (logical_state opened) front) last.reply (length left) (length rest) (let size = ap length is in omega (arith, size)) (kept.timed front last same);
       }
@@ -144,206 +98,279 @@ module _ (opened : List ℕ) where
       → left ≡ action ∷ rest → after ≡ acted 1 action d → events ≡ fewer + 1 → late ≢ length rest
       → IsKept d opened history now left (flight.Committing number late) events played started → IsKept after opened history now rest (flight.Committing number late) fewer (played + 1) started
   plays_early d after history now left rest action number late events fewer played started is acts one apart kept =
-      let words = words-played d after left rest action is acts in
+      let entries = unanswered (length history + 1) call.Commit (reply.Committed number) ∷ [] in
+      let next = next_of number late now kept.plans kept.base d after left rest action kept.playing is acts kept.bounded.0 kept.plan in
+      let more = next.0 in
+      let first = next.1 in
+      let same : standing (moved kept.plans kept.base d after action more kept.playing first acts) entries kept.base ≡ standing kept.plans entries kept.base =
+      moved-stands kept.plans kept.base d after action more kept.playing first acts (has_place entries) in
       record {
+        plans = moved kept.plans kept.base d after action more kept.playing first acts;
+        base = kept.base;
+        playing = moved-playing kept.plans kept.base d after action more kept.playing first acts;
+        others = alone-with kept.plans (advanced (kept.plans 1)) kept.others;
+        plan = committing-plays number late now kept.plans kept.base d after left rest action kept.playing is acts kept.bounded.0 kept.plan
+            (let below = kept.bounded.0 in let size = ap length is in omega (arith, below, size, apart));
         legal = kept.legal;
-        legal_due = kept.legal_due;
-        represents = kept.represents ∙ ap (λ (ws : List ℕ). state_of ws now) (sym words);
-        stage = rw words kept.stage;
-        under_way = under_way-plays d after left rest action is acts kept.under_way;
-        commit = committing-plays number late d after left rest action is acts (let below = kept.bounded.0 in let size = ap length is in omega (arith, below, size, apart)) kept.commit;
+        represents = kept.represents ∙ ap (λ (ws : List ℕ). state_of ws now) (sym same);
+        stage = subst (λ (ws : List ℕ). IsStage ws now.running) (sym same) kept.stage;
+        safe = moved-holds kept.plans kept.base d after action more kept.playing first acts (IsSafe opened history entries) kept.safe;
         answers = kept.answers;
         alone = kept.alone;
         count = kept.count;
         begun = kept.begun;
         bounded = let below = kept.bounded in let size = ap length is in (omega (arith, below.0, size, apart), omega (arith, below.1, size, one));
         actions = let a = kept.actions in omega (arith, a, one);
-        safe = holds-plays (IsSafe opened history (flight.Committing number late)) d after left rest action is acts kept.safe;
-        least = rw words kept.least;
-        rows = rw words kept.rows;
         done = played-more kept.done after rest action is acts;
         timed = kept.timed;
       }
 
-  -- a commit gets its place
+  -- a commit gets its place: the first half of its plan has ended, and the second half joins
   plays_commit : (d after : Device) (history : List Entry) (now : Transactions) (left rest : List Action) (action : Action) (number late events fewer played started : ℕ)
       → left ≡ action ∷ rest → after ≡ acted 1 action d → events ≡ fewer + 1 → late ≡ length rest
       → IsKept d opened history now left (flight.Committing number late) events played started
-      → IsKept after opened (history ++ unanswered (length history + 1) call.Commit (reply.Committed number) ∷ []) now rest (flight.Placed (reply.Committed number)) fewer (played + 1) started
+      → IsKept after opened (history ++ unanswered (length history + 1) call.Commit (reply.Committed number) ∷ []) (none_open now) rest (flight.Placed (reply.Committed number)) fewer (played + 1) started
   plays_commit d after history now left rest action number late events fewer played started is acts one at kept =
-      let words = words-played d after left rest action is acts in
       let entry = unanswered (length history + 1) call.Commit (reply.Committed number) in
       let none = append-nil (history ++ entry ∷ []) in
       let size_more = length-append history (entry ∷ []) in
+      let way = kept.plan in
+      let h = way.halves in
+      let early = commit_early h.first h.count number in
+      let second = commit_late h.count number in
+      let over = first-over number late now kept.plans kept.base d after left rest action kept.playing is acts kept.bounded.0 way at in
+      let plans = moved kept.plans kept.base d after action [] kept.playing over.0 acts in
+      let playing = moved-playing kept.plans kept.base d after action [] kept.playing over.0 acts in
+      let others = alone-with kept.plans (advanced (kept.plans 1)) kept.others in
+      let gone = moved-left kept.plans kept.base d after action [] kept.playing over.0 acts in
+      -- the states before and after
+      let before = state_of kept.base now in
+      let then = state_of (words_after way.actions kept.base) (none_open now) in
+      let base_is : standing kept.plans (entry ∷ []) kept.base ≡ kept.base = stands-waiting kept.plans kept.base d (has_place (entry ∷ [])) kept.playing kept.others refl in
+      let is_before : state_after (logical_state opened) history ≡ before = kept.represents ∙ ap (λ (ws : List ℕ). state_of ws now) base_is in
+      let is_then : state_after (logical_state opened) (history ++ entry ∷ []) ≡ then =
+      state_after-more (logical_state opened) history entry ∙ ap (λ (s : State). next s 1 call.Commit (reply.Committed number)) is_before ∙ way.decided.state in
+      -- the words at the fence
+      let words : finished early kept.base ≡ after.cached =
+      ap (λ (ps : List Part). finished ps kept.base) (sym way.parts)
+      ∙ ap (λ (p : Progress). finished p.play.parts kept.base) (sym (moved-one kept.plans kept.base d after action [] kept.playing over.0 acts))
+      ∙ rested-cached plans kept.base after playing others gone in
+      let placed = IsSafe opened (history ++ entry ∷ []) [] in
+      let certain : HoldsAtEachCut 17 placed plans kept.base = holds-map 17 (IsSafe opened history (entry ∷ [])) placed plans kept.base
+      (λ few image later safe. placed-safe opened history before then is_before number (length history + 1) h.rows is_then few image
+      (let most = subst (λ (xs : List Action). few 1 ≤ length xs) gone (later 1 (omega arith)) in omega (arith, most)) safe)
+      (moved-holds kept.plans kept.base d after action [] kept.playing over.0 acts (IsSafe opened history (entry ∷ [])) kept.safe) in
+      -- the second half
+      let rest_plans = rested plans kept.base after playing others gone after.cached in
+      let rest_playing = rested-playing plans kept.base after playing others gone in
+      let rest_idle = rested-idle plans kept.base after playing others gone after.cached in
+      let plan : IsPlan (length after.cached) second = subst (λ (n : ℕ). IsPlan n second) (playing.size) h.plan.1.1 in
+      let cuts : EachCut (IsShown before then) second after.cached = subst (EachCut (IsShown before then) second) words h.later in
+      let few : next_row after.cached ≤ next_row_of before 0 = (let most = (each_cut-start (IsShown before then) second after.cached cuts).most in let same = h.rows in omega (arith, most, same)) in
+      let law = survives-alone placed placed (IsShown before then) (IsShown before then) after.cached second plan cuts (each_cut-end (IsShown before then) second after.cached cuts)
+      (λ counts image safe some shown. certain-safe opened history before then is_before number (length history + 1) h.rows is_then counts after.cached image few safe shown)
+      (λ counts image safe nothing shown. certain-safe opened history before then is_before number (length history + 1) h.rows is_then counts after.cached image few safe shown) in
+      let reached : words_after way.actions kept.base ≡ standing (joined rest_plans after rest_playing rest_idle second plan) [] after.cached =
+      ap (λ (xs : List Action). words_after xs kept.base) h.plan_is ∙ words_after-plan (early ++ second) kept.base ∙ ap (finished second) words
+      ∙ sym (joined-stands rest_plans after rest_playing rest_idle second plan (has_place []) refl) in
       record {
-        legal = kept.legal_due;
-        legal_due = subst (λ (h : List Entry). IsLegal (logical_state opened) h) (sym none) kept.legal_due;
-        represents = ap (state_after (logical_state opened)) none ∙ kept.represents ∙ ap (λ (ws : List ℕ). state_of ws now) (sym words);
-        stage = rw words kept.stage;
-        under_way = under_way-plays d after left rest action is acts kept.under_way;
-        commit = tt;
+        plans = joined rest_plans after rest_playing rest_idle second plan;
+        base = after.cached;
+        playing = joined-playing rest_plans after rest_playing rest_idle second plan;
+        others = joined-alone rest_plans after rest_playing rest_idle second plan;
+        plan = over.1 ∙ ap left_of (sym (joined-one rest_plans after rest_playing rest_idle second plan));
+        legal = legal-more (logical_state opened) history entry kept.legal kept.alone refl refl (subst (λ (s : State). IsAllowed s 1 call.Commit (reply.Committed number)) (sym is_before) way.decided.allowed);
+        represents = is_then ∙ ap (λ (ws : List ℕ). state_of ws (none_open now)) reached;
+        stage = subst (λ (ws : List ℕ). IsStage ws None) reached way.decided.stage;
+        safe = joined-holds rest_plans after rest_playing rest_idle second plan placed placed law (rested-holds plans kept.base after playing others gone placed certain);
         answers = record { front = history; last = entry; is = refl; given_before = kept.answers; open_still = refl; reply = refl };
         alone = of_one-more history entry kept.alone refl;
         count = let c = kept.count in omega (arith, c, size_more);
-        begun = subst (λ (h : List Entry). now.begun ≤ length h) (sym none) kept.begun;
+        begun = let b = kept.begun in omega (arith, b, size_more);
         bounded = let below = kept.bounded in let size = ap length is in omega (arith, below.1, size, one);
         actions = let a = kept.actions in omega (arith, a, one);
-        safe = holds-map (IsSafe opened history (flight.Committing number late)) (IsSafe opened (history ++ entry ∷ []) (flight.Placed (reply.Committed number))) rest after
-            (λ k image le safe. (safe.0, recovers-more opened history (history ++ entry ∷ []) entry image refl (safe.1.0 (omega (arith, le, at)))))
-            (holds-plays (IsSafe opened history (flight.Committing number late)) d after left rest action is acts kept.safe);
-        least = rw words kept.least;
-        rows = rw words (All-push (λ e. IsRowBelow (next_row_of (state_of (words_after left d.cached) now) 0) e.reply) history entry kept.rows tt);
         done = subst (λ (h : List Entry). HasPlayed after opened h rest (played + 1)) (sym none) (played-more kept.done after rest action is acts);
         timed = ends-certain (logical_state opened) history entry (length rest) (let is_late = kept.timed in omega (arith, at, is_late));
       }
 
   -- an action
-  pub plays : (d after : Device) (history new : List Entry) (now : Transactions) (left rest : List Action) (action : Action) (before placed : Flight) (events fewer played started : ℕ)
-      → left ≡ action ∷ rest → after ≡ acted 1 action d → events ≡ fewer + 1 → IsPlacedAt (length rest) before placed history new
-      → IsKept d opened history now left before events played started → IsKept after opened new now rest placed fewer (played + 1) started
-  plays d after history new now left rest action flight.Idle placed events fewer played started is acts one places kept =
+  pub plays : (d after : Device) (history new : List Entry) (now next_now : Transactions) (left rest : List Action) (action : Action) (before placed : Flight) (events fewer played started : ℕ)
+      → left ≡ action ∷ rest → after ≡ acted 1 action d → events ≡ fewer + 1 → IsPlacedAt (length rest) before placed now next_now history new
+      → IsKept d opened history now left before events played started → IsKept after opened new next_now rest placed fewer (played + 1) started
+  plays d after history new now next_now left rest action flight.Idle placed events fewer played started is acts one places kept =
       let none : left ≡ [] = kept.bounded in absurd (empty (sym none ∙ is))
     where
       empty : [] ≡ action ∷ rest → ⊥
       empty e = cc
-  plays d after history new now left rest action (flight.Waiting said) placed events fewer played started is acts one places kept =
+  plays d after history new now next_now left rest action (flight.Waiting said) placed events fewer played started is acts one places kept =
       let none : left ≡ [] = kept.bounded.0 in absurd (empty (sym none ∙ is))
     where
       empty : [] ≡ action ∷ rest → ⊥
       empty e = cc
-  plays d after history new now left rest action (flight.Committing number late) placed events fewer played started is acts one (inl places) kept =
-      rw (places.1, places.2) (plays_commit d after history now left rest action number late events fewer played started is acts one places.0 kept)
-  plays d after history new now left rest action (flight.Committing number late) placed events fewer played started is acts one (inr places) kept =
-      rw (places.1, places.2) (plays_early d after history now left rest action number late events fewer played started is acts one places.0 kept)
-  plays d after history new now left rest action (flight.Placed given) placed events fewer played started is acts one places kept =
-      rw (places.0, places.1) (plays_placed d after history now left rest action given events fewer played started is acts one kept)
+  plays d after history new now next_now left rest action (flight.Committing number late) placed events fewer played started is acts one (inl places) kept =
+      rw (places.1, places.2, places.3) (plays_commit d after history now left rest action number late events fewer played started is acts one places.0 kept)
+  plays d after history new now next_now left rest action (flight.Committing number late) placed events fewer played started is acts one (inr places) kept =
+      rw (places.1, places.2, places.3) (plays_early d after history now left rest action number late events fewer played started is acts one places.0 kept)
+  plays d after history new now next_now left rest action (flight.Placed given) placed events fewer played started is acts one places kept =
+      rw (places.0, places.1, places.2) (plays_placed d after history now left rest action given events fewer played started is acts one kept)
 
-  -- the state before a decision
-  pub state_now : (d : Device) (history : List Entry) (now : Transactions) (said : Call) (events played started : ℕ) → IsKept d opened history now [] (flight.Waiting said) events played started
-      → state_after (logical_state opened) history ≡ state_of d.cached now
-  state_now d history now said events played started kept = ap (state_after (logical_state opened)) (sym (append-nil history)) ∙ kept.represents
+  -- ── a decision ──
 
-  decides_now : (d : Device) (history : List Entry) (now next_now : Transactions) (said : Call) (given copy : Reply) (actions : List Action) (events fewer played started : ℕ)
-      → events ≡ fewer + 1 → copy ≡ given → IsPlacedLate d.cached None said given actions → IsDecided d.cached now said given actions next_now
-      → (Fits d.cached → SurvivesCuts (IsShownWhile (state_of d.cached now) (state_of (words_after actions d.cached) next_now) None) d.cached actions)
-      → IsKept d opened history now [] (flight.Waiting said) events played started
-      → IsKept d opened (history ++ unanswered (length history + 1) said given ∷ []) next_now actions (flight.Placed copy) fewer played started
-  decides_now d history now next_now said given copy actions events fewer played started one copied places decided survives kept =
-      let entry = unanswered (length history + 1) said given in
-      let none = append-nil (history ++ entry ∷ []) in
-      let before = state_now d history now said events played started kept in
-      let legal = legal-more (logical_state opened) history entry kept.legal kept.alone refl refl (subst (λ (s : State). IsAllowed s 1 said given) (sym before) decided.allowed) in
-      let size_more = length-append history (entry ∷ []) in
-      let short = decided.short in
-      let size : length d.durable ≡ length d.cached = kept.under_way.playing.looks.durable_size ∙ sym kept.under_way.playing.looks.cached_size in
-      let clean = all-clean d [] refl kept.under_way in
-      let fits = (holds-now (IsSafe opened history (flight.Waiting said)) [] d kept.safe d.cached (record { size = sym size; each = λ w. inr refl })).0 in
-      let holds = survives-holds (IsShownWhile (state_of d.cached now) (state_of (words_after actions d.cached) next_now) None) d actions clean size (survives fits) in
-      let shown_now = holds-now (IsShownWhile (state_of d.cached now) (state_of (words_after actions d.cached) next_now) None) actions d holds d.cached (record { size = sym size; each = λ w. inr refl }) in
-      let low = shown_now.least in
-      let high = shown_now.most in
-      let more_rows : next_row_of (state_of d.cached now) 0 ≤ next_row_of (state_of (words_after actions d.cached) next_now) 0 = omega (arith, low, high) in
-      record {
-        legal = legal;
-        legal_due = subst (λ (h : List Entry). IsLegal (logical_state opened) h) (sym none) legal;
-        represents = ap (state_after (logical_state opened)) none ∙ state_after-more (logical_state opened) history entry ∙ ap (λ (s : State). next s 1 said given) before ∙ decided.state;
-        stage = decided.stage;
-        under_way = subst (λ (l : List Action). IsUnderWay l d) (sym decided.plan_is) (under_way-begins d [] decided.parts refl kept.under_way decided.plan);
-        commit = tt;
-        answers = record { front = history; last = entry; is = refl; given_before = kept.answers; open_still = refl; reply = sym copied };
-        alone = of_one-more history entry kept.alone refl;
-        count = let c = kept.count in omega (arith, c, size_more);
-        begun = let b = kept.begun in let more = decided.begun in let nothing = ap length (append-nil history) in let all = ap length none in omega (arith, b, more, nothing, size_more, all);
-        bounded = let some = kept.bounded.1 in omega (arith, some, short, one);
-        actions = let a = kept.actions in omega (arith, a, one);
-        safe = holds-map (IsShownWhile (state_of d.cached now) (state_of (words_after actions d.cached) next_now) None) (IsSafe opened (history ++ entry ∷ []) (flight.Placed copy)) actions d
-            (λ k image le shown. (
-              shown.fits,
-              recovers opened (words_after actions d.cached) (history ++ entry ∷ []) (history ++ entry ∷ []) next_now (next_row_of (state_of d.cached now) 0) image
-                  (state_after-more (logical_state opened) history entry ∙ ap (λ (s : State). next s 1 said given) before ∙ decided.state)
-                  kept.least (given-more history entry (next_row_of (state_of d.cached now) 0) refl (given-all history (next_row_of (state_of d.cached now) 0) kept.rows)) shown.commits shown.least shown.most,
-            ))
-            holds;
-        least = let l = kept.least in omega (arith, l, more_rows);
-        rows = All-push (λ e. IsRowBelow (next_row_of (state_of (words_after actions d.cached) next_now) 0) e.reply) history entry
-            (All-weaker (λ (e : Entry). IsRowBelow (next_row_of (state_of d.cached now) 0) e.reply) (λ (e : Entry). IsRowBelow (next_row_of (state_of (words_after actions d.cached) next_now) 0) e.reply)
-            (λ e below. row-below e.reply (next_row_of (state_of d.cached now) 0) (next_row_of (state_of (words_after actions d.cached) next_now) 0) more_rows below) history kept.rows)
-            decided.below;
-        done = subst (λ (h : List Entry). HasPlayed d opened h actions played) (sym none)
-            (played-decided d opened history entry actions played (decided.planned ∙ ap (λ (s : State). plan_due s said given) (sym before)) kept.done);
-        timed = ends-certain (logical_state opened) history entry (length actions) (certain-now d.cached said given actions (state_after (logical_state opened) history) (length actions) places);
-      }
+  module _ (d : Device) (history : List Entry) (now : Transactions) (said : Call) (events played started : ℕ) (kept : IsKept d opened history now [] (flight.Waiting said) events played started) where
+    gone : left_of (kept.plans 1) ≡ []
+    gone = sym kept.plan
 
-  decides_late : (d : Device) (history : List Entry) (now next_now : Transactions) (number late : ℕ) (actions : List Action) (events fewer played started : ℕ)
-      → events ≡ fewer + 1 → late < length actions → late ≡ late_in (state_of d.cached now) number → IsCommitPlan d.cached number late actions → IsDecided d.cached now call.Commit (reply.Committed number) actions next_now
-      → (Fits d.cached → SurvivesCuts (IsShownWhile (state_of d.cached now) (state_of (words_after actions d.cached) next_now) (Some (record { number = number; left = late }))) d.cached actions)
+    -- the words stand for those of the device
+    stood : standing kept.plans [] kept.base ≡ d.cached
+    stood = rested-stands kept.plans kept.base d kept.playing kept.others gone (has_place []) refl
+
+    -- the state before it
+    pub state_now : state_after (logical_state opened) history ≡ state_of d.cached now
+    state_now = kept.represents ∙ ap (λ (ws : List ℕ). state_of ws now) stood
+
+    pub stage_now : IsStage d.cached now.running
+    stage_now = subst (λ (ws : List ℕ). IsStage ws now.running) stood kept.stage
+
+    fits_now : Fits d.cached
+    fits_now = (holds-now 17 kept.plans kept.base d kept.playing (IsSafe opened history []) kept.safe d.cached (record { size = sym kept.playing.whole; each = λ w. inr refl })).fits
+
+    rows_now : next_row d.cached ≡ next_row_of (state_of d.cached now) 0
+    rows_now = let shows = stage-shows d.cached now.running stage_now in let next = shows.1 in omega (arith, next)
+
+    -- nothing is played
+    abbrev idle_plans : Plans
+    idle_plans = rested kept.plans kept.base d kept.playing kept.others gone d.cached
+
+    idle_playing : ArePlaying 17 idle_plans d.cached d
+    idle_playing = rested-playing kept.plans kept.base d kept.playing kept.others gone
+
+    idle_all : (session w : ℕ) → (idle_plans session).play.own w ≡ false
+    idle_all = rested-idle kept.plans kept.base d kept.playing kept.others gone d.cached
+
+    idle_holds : HoldsAtEachCut 17 (IsSafe opened history []) idle_plans d.cached
+    idle_holds = rested-holds kept.plans kept.base d kept.playing kept.others gone (IsSafe opened history []) kept.safe
+
+    decides_now : (next_now : Transactions) (given copy : Reply) (actions : List Action) (fewer : ℕ)
+        → events ≡ fewer + 1 → copy ≡ given → IsPlacedLate None said given actions → IsDecided d.cached now said given actions next_now
+        → (Fits d.cached → SurvivesCuts (state_of d.cached now) (state_of (words_after actions d.cached) next_now) d.cached actions)
+        → IsKept d opened (history ++ unanswered (length history + 1) said given ∷ []) next_now actions (flight.Placed copy) fewer played started
+    decides_now next_now given copy actions fewer one copied places decided survives =
+        let entry = unanswered (length history + 1) said given in
+        let none = append-nil (history ++ entry ∷ []) in
+        let size_more = length-append history (entry ∷ []) in
+        let short = decided.short in
+        let before = state_of d.cached now in
+        let then = state_of (words_after actions d.cached) next_now in
+        let is_then : state_after (logical_state opened) (history ++ entry ∷ []) ≡ then =
+        state_after-more (logical_state opened) history entry ∙ ap (λ (s : State). next s 1 said given) state_now ∙ decided.state in
+        let s = survives fits_now in
+        let words : words_after actions d.cached ≡ finished s.parts d.cached = ap (λ (xs : List Action). words_after xs d.cached) s.plan_is ∙ words_after-plan s.parts d.cached in
+        let rows_then : next_row (finished s.parts d.cached) ≡ next_row_of then 0 =
+        ap next_row (sym words) ∙ (let shows = stage-shows (words_after actions d.cached) next_now.running decided.stage in let next = shows.1 in omega (arith, next)) in
+        let placed = IsSafe opened (history ++ entry ∷ []) [] in
+        let law = survives-alone (IsSafe opened history []) placed (IsShown before then) (λ image. IsShown before then image × (next_row image ≡ next_row_of then 0)) d.cached s.parts s.plan s.each
+        (each_cut-end (IsShown before then) s.parts d.cached s.each, rows_then)
+        (λ left image safe some shown. decided-safe opened history before then state_now d.cached rows_now left said given (length history + 1) is_then image safe some shown)
+        (λ left image safe nothing shown. decided-ends opened history before then state_now d.cached rows_now left said given (length history + 1) is_then image safe decided.below shown) in
+        let reached : words_after actions d.cached ≡ standing (joined idle_plans d idle_playing idle_all s.parts s.plan) [] d.cached =
+        words ∙ sym (joined-stands idle_plans d idle_playing idle_all s.parts s.plan (has_place []) refl) in
+        record {
+          plans = joined idle_plans d idle_playing idle_all s.parts s.plan;
+          base = d.cached;
+          playing = joined-playing idle_plans d idle_playing idle_all s.parts s.plan;
+          others = joined-alone idle_plans d idle_playing idle_all s.parts s.plan;
+          plan = s.plan_is ∙ ap left_of (sym (joined-one idle_plans d idle_playing idle_all s.parts s.plan));
+          legal = legal-more (logical_state opened) history entry kept.legal kept.alone refl refl (subst (λ (s : State). IsAllowed s 1 said given) (sym state_now) decided.allowed);
+          represents = is_then ∙ ap (λ (ws : List ℕ). state_of ws next_now) reached;
+          stage = subst (λ (ws : List ℕ). IsStage ws next_now.running) reached decided.stage;
+          safe = joined-holds idle_plans d idle_playing idle_all s.parts s.plan (IsSafe opened history []) placed law idle_holds;
+          answers = record { front = history; last = entry; is = refl; given_before = kept.answers; open_still = refl; reply = sym copied };
+          alone = of_one-more history entry kept.alone refl;
+          count = let c = kept.count in omega (arith, c, size_more);
+          begun = let b = kept.begun in let more = decided.begun in omega (arith, b, more, size_more);
+          bounded = let some = kept.bounded.1 in omega (arith, some, short, one);
+          actions = let a = kept.actions in omega (arith, a, one);
+          done = subst (λ (h : List Entry). HasPlayed d opened h actions played) (sym none)
+              (played-decided d opened history entry actions played (decided.planned ∙ ap (λ (s : State). plan_due s said given) (sym state_now)) kept.done);
+          timed = ends-certain (logical_state opened) history entry (length actions) (certain-now said given actions (state_after (logical_state opened) history) (length actions) places);
+        }
+
+  decides_late : (d : Device) (history : List Entry) (now : Transactions) (number late : ℕ) (actions : List Action) (events fewer played started : ℕ)
+      → events ≡ fewer + 1 → late < length actions → late ≡ late_in (state_of d.cached now) number → IsDecided d.cached now call.Commit (reply.Committed number) actions (none_open now)
+      → (Fits d.cached → SurvivesInHalves (state_of d.cached now) (state_of (words_after actions d.cached) (none_open now)) number late d.cached actions)
       → IsKept d opened history now [] (flight.Waiting call.Commit) events played started
-      → IsKept d opened history next_now actions (flight.Committing number late) fewer played started
-  decides_late d history now next_now number late actions events fewer played started one later is_late planned decided survives kept =
+      → IsKept d opened history now actions (flight.Committing number late) fewer played started
+  decides_late d history now number late actions events fewer played started one later is_late decided survives kept =
       let entry = unanswered (length history + 1) call.Commit (reply.Committed number) in
-      let before = state_now d history now call.Commit events played started kept in
-      let size_more = length-append history (entry ∷ []) in
       let short = decided.short in
-      let size : length d.durable ≡ length d.cached = kept.under_way.playing.looks.durable_size ∙ sym kept.under_way.playing.looks.cached_size in
-      let clean = all-clean d [] refl kept.under_way in
-      let fits = (holds-now (IsSafe opened history (flight.Waiting call.Commit)) [] d kept.safe d.cached (record { size = sym size; each = λ w. inr refl })).0 in
-      let holds = survives-holds (IsShownWhile (state_of d.cached now) (state_of (words_after actions d.cached) next_now) (Some (record { number = number; left = late }))) d actions clean size (survives fits) in
-      let last = (holds-end (IsShownWhile (state_of d.cached now) (state_of (words_after actions d.cached) next_now) (Some (record { number = number; left = late }))) actions d holds).0 (omega arith) in
-      let low = last.least in
-      let high = last.most in
-      let more_rows : next_row_of (state_of d.cached now) 0 ≤ next_row_of (state_of (words_after actions d.cached) next_now) 0 = omega (arith, low, high) in
-      let given = given-all history (next_row_of (state_of d.cached now) 0) kept.rows in
-      let then : state_after (logical_state opened) (history ++ entry ∷ []) ≡ state_of (words_after actions d.cached) next_now =
-      state_after-more (logical_state opened) history entry ∙ ap (λ (s : State). next s 1 call.Commit (reply.Committed number)) before ∙ decided.state in
-      let old = λ (image : List ℕ) (shown : IsShown (state_of d.cached now) (state_of d.cached now) image).
-      recovers opened d.cached history history now (next_row_of (state_of d.cached now) 0) image before kept.least given shown.commits shown.least shown.most in
-      let new = λ (image : List ℕ) (shown : IsShown (state_of d.cached now) (state_of (words_after actions d.cached) next_now) image).
-      recovers opened (words_after actions d.cached) history (history ++ entry ∷ []) next_now (next_row_of (state_of d.cached now) 0) image then kept.least given shown.commits shown.least shown.most in
+      let before = state_of d.cached now in
+      let then = state_of (words_after actions d.cached) (none_open now) in
+      let is_before = state_now d history now call.Commit events played started kept in
+      let is_then : state_after (logical_state opened) (history ++ entry ∷ []) ≡ then =
+      state_after-more (logical_state opened) history entry ∙ ap (λ (s : State). next s 1 call.Commit (reply.Committed number)) is_before ∙ decided.state in
+      let h = survives (fits_now d history now call.Commit events played started kept) in
+      let early = commit_early h.first h.count number in
+      let second = commit_late h.count number in
+      let plan : IsPlan (length d.cached) early = (h.plan.0, (h.plan.1.0, tt)) in
+      let plans = idle_plans d history now call.Commit events played started kept in
+      let playing = idle_playing d history now call.Commit events played started kept in
+      let all = idle_all d history now call.Commit events played started kept in
+      let rows = rows_now d history now call.Commit events played started kept in
+      let due_then = IsSafe opened history (entry ∷ []) in
+      let law = survives-alone (IsSafe opened history []) due_then (IsShownUntil before then number) (λ image. IsShownUntil before then number image × IsShown before then image) d.cached early plan h.early
+      (each_cut-end (IsShownUntil before then number) early d.cached h.early, each_cut-start (IsShown before then) second (finished early d.cached) h.later)
+      (λ left image safe some shown. until-safe opened history before then is_before d.cached rows left number (length history + 1) h.rows is_then image safe some shown)
+      (λ left image safe nothing shown. until-ends opened history before then is_before d.cached rows left number (length history + 1) h.rows is_then image safe shown) in
+      let stays : standing (joined plans d playing all early plan) (entry ∷ []) d.cached ≡ d.cached =
+      stands-waiting (joined plans d playing all early plan) d.cached d (has_place (entry ∷ [])) (joined-playing plans d playing all early plan) (joined-alone plans d playing all early plan) refl in
+      let mine = joined-one plans d playing all early plan in
       record {
+        plans = joined plans d playing all early plan;
+        base = d.cached;
+        playing = joined-playing plans d playing all early plan;
+        others = joined-alone plans d playing all early plan;
+        plan = record {
+          actions = actions;
+          decided = decided;
+          halves = h;
+          parts = ap (λ (p : Progress). p.play.parts) mine;
+          behind = h.plan_is ∙ flat_map-append part_actions early second ∙ ap (λ (p : Progress). left_of p ++ plan_of second) (sym mine);
+          not_yet = sym (rested-clean kept.plans kept.base d kept.playing kept.others (sym kept.plan) (commit_word_at 0)) ∙ h.unset;
+        };
         legal = kept.legal;
-        legal_due = legal-more (logical_state opened) history entry kept.legal kept.alone refl refl (subst (λ (s : State). IsAllowed s 1 call.Commit (reply.Committed number)) (sym before) decided.allowed);
-        represents = state_after-more (logical_state opened) history entry ∙ ap (λ (s : State). next s 1 call.Commit (reply.Committed number)) before ∙ decided.state;
-        stage = decided.stage;
-        under_way = subst (λ (l : List Action). IsUnderWay l d) (sym decided.plan_is) (under_way-begins d [] decided.parts refl kept.under_way decided.plan);
-        commit = committing-begins number late d actions (all-clean d [] refl kept.under_way) (kept.under_way.playing.looks.durable_size ∙ sym kept.under_way.playing.looks.cached_size) planned;
+        represents = is_before ∙ ap (λ (ws : List ℕ). state_of ws now) (sym stays);
+        stage = subst (λ (ws : List ℕ). IsStage ws now.running) (sym stays) (stage_now d history now call.Commit events played started kept);
+        safe = joined-holds plans d playing all early plan (IsSafe opened history []) due_then law (idle_holds d history now call.Commit events played started kept);
         answers = kept.answers;
         alone = kept.alone;
         count = kept.count;
-        begun = let b = kept.begun in let more = decided.begun in let nothing = ap length (append-nil history) in omega (arith, b, more, nothing, size_more);
+        begun = kept.begun;
         bounded = (later, (let some = kept.bounded.1 in omega (arith, some, short, one)));
         actions = let a = kept.actions in omega (arith, a, one);
-        safe = holds-map (IsShownWhile (state_of d.cached now) (state_of (words_after actions d.cached) next_now) (Some (record { number = number; left = late }))) (IsSafe opened history (flight.Committing number late)) actions d
-            (λ k image le shown. ⊎_elim
-            (λ (far : late < k). ⊎_elim
-            (λ before_it. (before_it.fits, ((λ near. absurd (omega (arith, near, far))), (λ _. inl (old image before_it)))))
-            (λ with_it. (with_it.0.fits, ((λ near. absurd (omega (arith, near, far))), (λ _. inr (new image with_it.0, with_it.1)))))
-            (shown.1 far))
-            (λ (near : k ≤ late). ((shown.0 near).fits, ((λ _. new image (shown.0 near)), (λ far. absurd (omega (arith, near, far))))))
-            (cases_lt late k))
-            holds;
-        least = let l = kept.least in omega (arith, l, more_rows);
-        rows = All-weaker (λ (e : Entry). IsRowBelow (next_row_of (state_of d.cached now) 0) e.reply) (λ (e : Entry). IsRowBelow (next_row_of (state_of (words_after actions d.cached) next_now) 0) e.reply)
-            (λ e below. row-below e.reply (next_row_of (state_of d.cached now) 0) (next_row_of (state_of (words_after actions d.cached) next_now) 0) more_rows below) history kept.rows;
-        done = played-decided d opened history entry actions played (decided.planned ∙ ap (λ (s : State). plan_due s call.Commit (reply.Committed number)) (sym before)) kept.done;
-        timed = is_late ∙ ap (λ (s : State). late_in s number) (sym before);
+        done = played-decided d opened history entry actions played (decided.planned ∙ ap (λ (s : State). plan_due s call.Commit (reply.Committed number)) (sym is_before)) kept.done;
+        timed = is_late ∙ ap (λ (s : State). late_in s number) (sym is_before);
       }
 
   -- a decision
   pub decides : (d : Device) (history new : List Entry) (now next_now : Transactions) (said : Call) (given copy : Reply) (late : Option Late) (entered : Flight) (actions : List Action) (events fewer played started : ℕ)
-      → events ≡ fewer + 1 → copy ≡ given → IsPlacedLate d.cached late said given actions → IsLateIn (state_of d.cached now) late → IsEntered late said given copy history new entered → IsDecided d.cached now said given actions next_now
-      → (Fits d.cached → SurvivesCuts (IsShownWhile (state_of d.cached now) (state_of (words_after actions d.cached) next_now) late) d.cached actions)
+      → events ≡ fewer + 1 → copy ≡ given → IsPlacedLate late said given actions → IsOpenStill late now next_now → IsLateIn (state_of d.cached now) late → IsEntered late said given copy history new entered
+      → IsDecided d.cached now said given actions (at_place late next_now)
+      → (Fits d.cached → IsSurvived (state_of d.cached now) (state_of (words_after actions d.cached) (at_place late next_now)) late d.cached actions)
       → IsKept d opened history now [] (flight.Waiting said) events played started → IsKept d opened new next_now actions entered fewer played started
-  decides d history new now next_now said given copy None entered actions events fewer played started one copied places timed enters decided survives kept =
-      rw (enters.0, enters.1) (decides_now d history now next_now said given copy actions events fewer played started one copied places decided survives kept)
-  decides d history new now next_now said (reply.Committed number) copy (Some late) entered actions events fewer played started one copied places timed enters decided survives kept =
-      rw (enters.0, enters.1, places.1)
-      (decides_late d history now next_now number late.left actions events fewer played started one places.2 (timed ∙ ap (λ (n : ℕ). late_in (state_of d.cached now) n) places.1) places.3
-      (subst (λ (c : Call). IsDecided d.cached now c (reply.Committed number) actions next_now) places.0 decided)
-      (subst (λ (n : ℕ). Fits d.cached → SurvivesCuts (IsShownWhile (state_of d.cached now) (state_of (words_after actions d.cached) next_now) (Some (record { number = n; left = late.left }))) d.cached actions) places.1 survives)
+  decides d history new now next_now said given copy None entered actions events fewer played started one copied places still timed enters decided survives kept =
+      rw (enters.0, enters.1) (decides_now d history now said events played started kept next_now given copy actions fewer one copied places decided survives)
+  decides d history new now next_now said (reply.Committed number) copy (Some late) entered actions events fewer played started one copied places still timed enters decided survives kept =
+      let decided_now = subst (λ (n : Transactions). IsDecided d.cached now said (reply.Committed number) actions (none_open n)) still decided in
+      let survives_now = subst (λ (n : Transactions). Fits d.cached → SurvivesInHalves (state_of d.cached now) (state_of (words_after actions d.cached) (none_open n)) late.number late.left d.cached actions) still survives in
+      rw (enters.0, enters.1, places.1, still)
+      (decides_late d history now number late.left actions events fewer played started one places.2 (timed ∙ ap (λ (n : ℕ). late_in (state_of d.cached now) n) places.1)
+      (subst (λ (c : Call). IsDecided d.cached now c (reply.Committed number) actions (none_open now)) places.0 decided_now)
+      (subst (λ (n : ℕ). Fits d.cached → SurvivesInHalves (state_of d.cached now) (state_of (words_after actions d.cached) (none_open now)) n late.left d.cached actions) places.1 survives_now)
       (subst (λ (c : Call). IsKept d opened history now [] (flight.Waiting c) events played started) places.0 kept))
-  decides d history new now next_now said given copy (Some late) entered actions events fewer played started one copied places timed enters decided survives kept = absurd places
+  decides d history new now next_now said given copy (Some late) entered actions events fewer played started one copied places still timed enters decided survives kept = absurd places
 
-  -- a reply
+  -- ── a reply, and a call ──
+
   pub replies : (d : Device) (history new : List Entry) (now : Transactions) (given : Reply) (events fewer played started : ℕ) → events ≡ fewer + 1
       → ((front : List Entry) → (last : Entry) → history ≡ front ++ last ∷ [] → new ≡ front ++ answered last ∷ [])
       → IsKept d opened history now [] (flight.Placed given) events played started → IsKept d opened new now [] flight.Idle fewer played started
@@ -352,41 +379,32 @@ module _ (opened : List ℕ) where
       let is_new = marked ends.front ends.last ends.is in
       let none_old = append-nil history in
       let none = append-nil (ends.front ++ answered ends.last ∷ []) in
+      let alone = subst IsOfOne ends.is kept.alone in
       let legal = legal-answered (logical_state opened) ends.front ends.last (subst (λ (h : List Entry). IsLegal (logical_state opened) h) ends.is kept.legal) in
       let size_old = length-append ends.front (ends.last ∷ []) in
       let size_new = length-append ends.front (answered ends.last ∷ []) in
       let size = ap length ends.is in
-      let length_is : length d.durable ≡ length d.cached = kept.under_way.playing.looks.durable_size ∙ sym kept.under_way.playing.looks.cached_size in
-      let clean = all-clean d [] refl kept.under_way in
-      let same = λ (image : List ℕ) (cut : IsCrashImage d image). ext_words image d.cached (cut.size ∙ length_is) (λ w. ⊎_elim (λ durable. durable ∙ sym (clean w)) (λ cached. cached) (cut.each w)) in
-      let fits = (holds-now (IsSafe opened history (flight.Placed given)) [] d kept.safe d.cached (record { size = sym length_is; each = λ w. inr refl })).0 in
-      let old = subst (λ (h : List Entry). All (λ e. IsRowBelow (next_row_of (state_of d.cached now) 0) e.reply) h) ends.is kept.rows in
-      let rows = All-push (λ (e : Entry). IsRowBelow (next_row_of (state_of d.cached now) 0) e.reply) ends.front (answered ends.last)
-      (all-left (λ (e : Entry). IsRowBelow (next_row_of (state_of d.cached now) 0) e.reply) ends.front (ends.last ∷ []) old)
-      (All-head (λ (e : Entry). IsRowBelow (next_row_of (state_of d.cached now) 0) e.reply) ends.last [] (all-right (λ (e : Entry). IsRowBelow (next_row_of (state_of d.cached now) 0) e.reply) ends.front (ends.last ∷ []) old)) in
-      let now_is : state_after (logical_state opened) (ends.front ++ answered ends.last ∷ []) ≡ state_of d.cached now =
-      state_after-answered (logical_state opened) ends.front ends.last ∙ ap (state_after (logical_state opened)) (sym (none_old ∙ ends.is)) ∙ kept.represents in
-      let rest = rest-shown d.cached now fits kept.stage in
-      let recovered = recovers opened d.cached (ends.front ++ answered ends.last ∷ []) (ends.front ++ answered ends.last ∷ []) now (next_row_of (state_of d.cached now) 0) d.cached now_is kept.least
-      (given-all (ends.front ++ answered ends.last ∷ []) (next_row_of (state_of d.cached now) 0) rows) rest.commits rest.least rest.most in
       rw is_new (record {
+        plans = kept.plans;
+        base = kept.base;
+        playing = kept.playing;
+        others = kept.others;
+        plan = kept.plan;
         legal = legal;
-        legal_due = subst (λ (h : List Entry). IsLegal (logical_state opened) h) (sym none) legal;
-        represents = ap (state_after (logical_state opened)) none ∙ state_after-answered (logical_state opened) ends.front ends.last
-            ∙ ap (state_after (logical_state opened)) (sym (none_old ∙ ends.is)) ∙ kept.represents;
+        represents = state_after-answered (logical_state opened) ends.front ends.last ∙ ap (state_after (logical_state opened)) (sym ends.is) ∙ kept.represents;
         stage = kept.stage;
-        under_way = kept.under_way;
-        commit = tt;
+        safe = holds-map 17 (IsSafe opened history []) (IsSafe opened (ends.front ++ answered ends.last ∷ []) []) kept.plans kept.base
+            (λ left image later safe. answered-safe opened ends.front ends.last left image (of_one-last ends.front ends.last alone)
+            (let most = subst (λ (xs : List Action). left 1 ≤ length xs) (sym kept.plan) (later 1 (omega arith)) in omega (arith, most))
+            (subst (λ (h : List Entry). IsSafe opened h [] left image) ends.is safe))
+            kept.safe;
         answers = All-append (λ entry. entry.answered ≡ true) ends.front (answered ends.last ∷ []) ends.given_before
             (All-cons (λ entry. entry.answered ≡ true) (answered ends.last) [] refl (All-nil (λ entry. entry.answered ≡ true)));
-        alone = of_one-answered ends.front ends.last (subst IsOfOne ends.is kept.alone);
+        alone = of_one-answered ends.front ends.last alone;
         count = let c = kept.count in omega (arith, c, size, size_old, size_new);
-        begun = let b = kept.begun in let l = ap length none_old in let m = ap length none in omega (arith, b, l, m, size, size_old, size_new);
+        begun = let b = kept.begun in omega (arith, b, size, size_old, size_new);
         bounded = refl;
         actions = let a = kept.actions in omega (arith, a, one);
-        safe = λ image cut. subst (λ (i : List ℕ). IsSafe opened (ends.front ++ answered ends.last ∷ []) flight.Idle 0 i) (sym (same image cut)) (fits, recovered);
-        least = kept.least;
-        rows = rows;
         done = subst (λ (h : List Entry). HasPlayed d opened h [] played) (sym none)
             (played-answered d opened ends.front ends.last played (subst (λ (h : List Entry). HasPlayed d opened h [] played) (none_old ∙ ends.is) kept.done));
         timed = tt;
@@ -396,31 +414,45 @@ module _ (opened : List ℕ) where
   pub starts : (d : Device) (history : List Entry) (now : Transactions) (left : List Action) (said : Call) (events played started : ℕ) → IsTrue (is_served said)
       → IsKept d opened history now left flight.Idle events played started → IsKept d opened history now left (flight.Waiting said) 65536 played (started + 1)
   starts d history now left said events played started served kept = record {
+    plans = kept.plans;
+    base = kept.base;
+    playing = kept.playing;
+    others = kept.others;
+    plan = kept.plan;
     legal = kept.legal;
-    legal_due = kept.legal_due;
     represents = kept.represents;
     stage = kept.stage;
-    under_way = kept.under_way;
-    commit = tt;
+    safe = kept.safe;
     answers = kept.answers;
     alone = kept.alone;
     count = let c = kept.count in omega (arith, c);
     begun = kept.begun;
     bounded = (kept.bounded, omega arith, served);
     actions = let a = kept.actions in omega (arith, a);
-    safe = kept.safe;
-    least = kept.least;
-    rows = kept.rows;
     done = kept.done;
     timed = tt;
   }
+
+  -- ── what follows ──
+
+  -- the entry of a commit that waits for its place may come next
+  pub legal-due : (d : Device) (history : List Entry) (now : Transactions) (left : List Action) (in_flight : Flight) (events played started : ℕ) → IsKept d opened history now left in_flight events played started
+      → IsLegal (logical_state opened) (history ++ due (length history) in_flight)
+  legal-due d history now left flight.Idle events played started kept = subst (λ (h : List Entry). IsLegal (logical_state opened) h) (sym (append-nil history)) kept.legal
+  legal-due d history now left (flight.Waiting said) events played started kept = subst (λ (h : List Entry). IsLegal (logical_state opened) h) (sym (append-nil history)) kept.legal
+  legal-due d history now left (flight.Placed given) events played started kept = subst (λ (h : List Entry). IsLegal (logical_state opened) h) (sym (append-nil history)) kept.legal
+  legal-due d history now left (flight.Committing number late) events played started kept =
+      let entry = unanswered (length history + 1) call.Commit (reply.Committed number) in
+      let base_is : standing kept.plans (entry ∷ []) kept.base ≡ kept.base = stands-waiting kept.plans kept.base d (has_place (entry ∷ [])) kept.playing kept.others refl in
+      legal-more (logical_state opened) history entry kept.legal kept.alone refl refl
+      (subst (λ (s : State). IsAllowed s 1 call.Commit (reply.Committed number)) (sym (kept.represents ∙ ap (λ (ws : List ℕ). state_of ws now) base_is)) kept.plan.decided.allowed)
 
   -- with no call in flight each word is durable
   pub rests : (d : Device) (history : List Entry) (now : Transactions) (left : List Action) (in_flight : Flight) (events played started : ℕ) → IsKept d opened history now left in_flight events played started
       → in_flight_of in_flight ≡ Nothing → d.durable ≡ d.cached
   rests d history now left flight.Idle events played started kept none =
-      let clean = all-clean d left kept.bounded kept.under_way in
-      ext_words d.durable d.cached (kept.under_way.playing.looks.durable_size ∙ sym kept.under_way.playing.looks.cached_size) (λ w. sym (clean w))
+      let clean = rested-clean kept.plans kept.base d kept.playing kept.others (sym kept.plan ∙ kept.bounded) in
+      ext_words d.durable d.cached kept.playing.whole (λ w. sym (clean w))
   rests d history now left (flight.Waiting said) events played started kept none = cc
   rests d history now left (flight.Committing number late) events played started kept none = cc
   rests d history now left (flight.Placed given) events played started kept none = cc

@@ -10,13 +10,15 @@ use Rattle.mv_model.specs.History.{state_after}
 use Rattle.pm_model.specs.declared.action.Action.{Action}
 use Rattle.pm_model.specs.declared.action.Action.TheVariants.{Fence}
 use Rattle.pm_model.specs.Device.{Device, acted}
-use Rattle.image_layout.specs.Fixed.{last_at, commit_word_at}
+use Rattle.image_layout.specs.Fixed.{last_at}
 use Rattle.engine_core.specs.Actions.{late_in}
-use Rattle.engine_core.specs.Decided.{IsFullWhere, IsNoMemoryWhere}
+use Rattle.engine_core.specs.Decided.{IsFullWhere, IsNoMemoryWhere, none_open}
 use Rattle.engine_core.specs.LogicalState.{logical_state}
+use Rattle.engine_core.specs.Recoverable.{deciding_word}
 use Rattle.engine_core.specs.declared.decision.Late.{Late}
 use Rattle.engine_core.specs.declared.flight.Flight.{Flight}
 use Rattle.engine_core.specs.declared.flight.Flight.TheVariants as flight
+use Rattle.engine_core.specs.declared.transactions.Transactions.{Transactions}
 use Rattle.engine_core.specs.declared.flight.Step.{Step}
 use Rattle.engine_core.specs.declared.flight.Step.TheVariants.{Played, Decided, Blocked, Replied}
 
@@ -85,14 +87,17 @@ abbrev pub IsEntered : Option Late → Call → Reply → Reply → List Entry �
 IsEntered (Some late) said given copy before after in_flight = (after ≡ before) × (in_flight ≡ flight.Committing late.number late.left)
 IsEntered None said given copy before after in_flight = (after ≡ before ++ unanswered (length before + 1) said given ∷ []) × (in_flight ≡ flight.Placed copy)
 
--- A commit has its entry once so many actions are left; nothing else changes.
-abbrev pub IsPlacedAt : ℕ → Flight → Flight → List Entry → List Entry → Type 0
-IsPlacedAt left flight.Idle now before after = (now ≡ flight.Idle) × (after ≡ before)
-IsPlacedAt left (flight.Waiting said) now before after = (now ≡ flight.Waiting said) × (after ≡ before)
-IsPlacedAt left (flight.Committing number late) now before after =
-    ((late ≡ left) × (now ≡ flight.Placed (reply.Committed number)) × (after ≡ before ++ unanswered (length before + 1) call.Commit (reply.Committed number) ∷ []))
-    ⊎ ((late ≢ left) × (now ≡ flight.Committing number late) × (after ≡ before))
-IsPlacedAt left (flight.Placed given) now before after = (now ≡ flight.Placed given) × (after ≡ before)
+-- A commit has its entry once so many actions are left, and its transaction is closed there; nothing else changes.
+abbrev pub IsPlacedAt : ℕ → Flight → Flight → Transactions → Transactions → List Entry → List Entry → Type 0
+IsPlacedAt left flight.Idle now own then before after = (now ≡ flight.Idle) × (then ≡ own) × (after ≡ before)
+IsPlacedAt left (flight.Waiting said) now own then before after =
+    (now ≡ flight.Waiting said) × (then ≡ own) × (after ≡ before)
+IsPlacedAt left (flight.Committing number late) now own then before after =
+    ((late ≡ left) × (now ≡ flight.Placed (reply.Committed number)) × (then ≡ none_open own)
+    × (after ≡ before ++ unanswered (length before + 1) call.Commit (reply.Committed number) ∷ []))
+    ⊎ ((late ≢ left) × (now ≡ flight.Committing number late) × (then ≡ own) × (after ≡ before))
+IsPlacedAt left (flight.Placed given) now own then before after =
+    (now ≡ flight.Placed given) × (then ≡ own) × (after ≡ before)
 
 -- the last entry has this reply, and it alone wasn't given yet
 pub record EndsUnanswered (given : Reply) (history : List Entry) : Type 0 where
@@ -188,12 +193,12 @@ pub record BecomesDue {M : Type 0} (before after : CoreState M) : Type 0 where
   pub number : ℕ
   pub due : after.due ≡ unanswered before.started call.Commit (reply.Committed number) ∷ []
 
--- The action was the fence that makes the commit word durable with this number, and the last commit number is still the
--- one before.
-pub record IsAtFence (number : ℕ) (before after : Device) : Type 0 where
+-- The action was the fence that makes the word which decides this entry durable, with this number, and the last commit
+-- number is still the one before.
+pub record IsAtFence (entry : Entry) (number : ℕ) (before after : Device) : Type 0 where
   pub fence : after ≡ acted 1 Fence before
-  pub was : slice_index before.durable (commit_word_at 0) ≡ 0
-  pub commit_word : slice_index after.durable (commit_word_at 0) ≡ number
+  pub was : slice_index before.durable (deciding_word entry) ≡ 0
+  pub decided : slice_index after.durable (deciding_word entry) ≡ number
   pub last : slice_index after.cached last_at + 1 ≡ number
 
 -- Such a commit gets the entry that is due at the action that makes its commit word durable.
@@ -201,7 +206,7 @@ pub record GetsNumber {M : Type 0} (d e : Device) (before after : CoreState M) :
   pub number : ℕ
   pub was_due : before.due ≡ unanswered before.started call.Commit (reply.Committed number) ∷ []
   pub entry : GetsEntry call.Commit (reply.Committed number) before after
-  pub at_fence : IsAtFence number d e
+  pub at_fence : IsAtFence (unanswered before.started call.Commit (reply.Committed number)) number d e
 
 -- The reply of the last entry is given, and no call is in flight.
 pub record GetsReply {M : Type 0} (given : Reply) (before after : CoreState M) : Type 0 where

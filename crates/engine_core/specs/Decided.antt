@@ -1,5 +1,5 @@
 -- What a decision has to meet.
-use Rattle.std.specs.Prelude.{◌≡◌, ◌⊎◌, ℕ, false, ◌+◌, ◌<◌, ◌≤◌, List, [], length, slice_index, Option, Some, None}
+use Rattle.std.specs.Prelude.{◌≡◌, ◌⊎◌, ℕ, false, ◌+◌, ◌<◌, ◌≤◌, List, [], length, Option, Some, None}
 use Rattle.mv_model.specs.declared.call.Call.{Call}
 use Rattle.mv_model.specs.declared.reply.Reply.{Reply}
 use Rattle.mv_model.specs.declared.call.Call.TheVariants as call
@@ -12,14 +12,13 @@ use Rattle.mv_model.specs.Laws.{is_refusal}
 use Rattle.mv_model.specs.Next.{next}
 use Rattle.pm_model.specs.declared.action.Action.{Action}
 use Rattle.pm_model.specs.PlanState.{PlanState}
-use Rattle.image_layout.specs.Fixed.{last_at, commit_word_at}
 use Rattle.pm_model.specs.Plans.{Part, plan_of, words_after, IsPlan}
 use Rattle.engine_core.specs.Actions.{late_in, plan_due, rows_created}
 use Rattle.engine_core.specs.Recoverable.{Fits}
 use Rattle.engine_core.specs.StageRules.{IsStage}
-use Rattle.engine_core.specs.Survival.{IsShownWhile, SurvivesCuts}
+use Rattle.engine_core.specs.Survival.{IsSurvived}
 use Rattle.engine_core.specs.LogicalState.{state_of}
-use Rattle.engine_core.specs.StagePlans.{close_parts, commit_late, commit_parts}
+use Rattle.engine_core.specs.StagePlans.{close_parts}
 use Rattle.engine_core.specs.declared.decision.Decision.{Decision}
 use Rattle.engine_core.specs.declared.decision.Late.{Late}
 use Rattle.engine_core.specs.declared.transactions.Transactions.{Transactions}
@@ -67,39 +66,49 @@ pub record IsDecided (words : List ℕ) (before : Transactions) (said : Call) (g
   pub short : length actions ≤ 400
   pub begun : after.begun ≤ before.begun + 1
 
--- These actions are the plan of the commit of this number, the next one in these words, and so many of them come after the
--- fence that makes its commit word durable.
-pub record IsCommitPlan (words : List ℕ) (number late : ℕ) (actions : List Action) : Type 0 where
-  pub first : ℕ
-  pub count : ℕ
-  pub plan : IsPlan (length words) (commit_parts first count number)
-  pub plan_is : actions ≡ plan_of (commit_parts first count number)
-  pub late_is : late ≡ length (plan_of (commit_late count number))
-  pub next : slice_index words last_at + 1 ≡ number
-  pub unset : slice_index words (commit_word_at 0) ≡ 0
-
 -- A commit gets its place in the history, and its number, at the fence that makes its commit word durable; every other
 -- call at its decision.
-abbrev pub IsPlacedLate : List ℕ → Option Late → Call → Reply → List Action → Type 0
-IsPlacedLate words (Some late) said (reply.Committed number) left =
-    (said ≡ call.Commit) × (late.number ≡ number) × (late.left < length left) × IsCommitPlan words number late.left left
-IsPlacedLate words (Some late) said other left = ⊥
-IsPlacedLate words None said (reply.Committed number) left = ⊥
-IsPlacedLate words None said other left = Unit {0}
+abbrev pub IsPlacedLate : Option Late → Call → Reply → List Action → Type 0
+IsPlacedLate (Some late) said (reply.Committed number) left =
+    (said ≡ call.Commit) × (late.number ≡ number) × (late.left < length left)
+IsPlacedLate (Some late) said other left = ⊥
+IsPlacedLate None said (reply.Committed number) left = ⊥
+IsPlacedLate None said other left = Unit {0}
+
+-- the transactions with none open
+abbrev pub none_open : Transactions → Transactions
+none_open now = record { begun = now.begun; running = None }
+
+-- the transactions once the call has its place: a commit that waits for it leaves none open
+abbrev pub at_place : Option Late → Transactions → Transactions
+at_place (Some late) now = none_open now
+at_place None now = now
+
+-- while a commit waits for its place, its transaction stays open
+abbrev pub IsOpenStill : Option Late → Transactions → Transactions → Type 0
+IsOpenStill (Some late) before after = after ≡ before
+IsOpenStill None before after = Unit {0}
 
 -- so many actions of a commit's plan come after the fence that makes it certain
 abbrev pub IsLateIn : State → Option Late → Type 0
 IsLateIn state (Some late) = late.left ≡ late_in state late.number
 IsLateIn state None = Unit {0}
 
--- What a decision has to meet. Its plan survives each cut: what is left fits together, and shows the state before the call or
--- the one after it.
+-- the state that the words stand for once the call has its place and its plan was played
+abbrev pub state_then : List ℕ → Decision → State
+state_then words decision = state_of (words_after (left_of decision.plan) words) (at_place decision.late decision.after)
+
+-- What a decision has to meet. Its plan survives each cut: what is left fits together, and shows the state before the
+-- call or the one after it.
 pub record IsDecision (words : List ℕ) (before : Transactions) (said : Call) (decision : Decision) : Type 0 where
   pub copied : decision.copy ≡ decision.reply
-  pub decided : IsDecided words before said decision.reply (left_of decision.plan) decision.after
-  pub late : IsPlacedLate words decision.late said decision.reply (left_of decision.plan)
+  pub decided : IsDecided words before said decision.reply (left_of decision.plan)
+      (at_place decision.late decision.after)
+  pub late : IsPlacedLate decision.late said decision.reply (left_of decision.plan)
+  pub open_still : IsOpenStill decision.late before decision.after
   pub timed : IsLateIn (state_of words before) decision.late
-  pub survives : Fits words → SurvivesCuts (IsShownWhile (state_of words before) (state_of (words_after (left_of decision.plan) words) decision.after) decision.late) words (left_of decision.plan)
+  pub survives : Fits words
+      → IsSurvived (state_of words before) (state_then words decision) decision.late words (left_of decision.plan)
 
 -- the decision that ends a transaction that wrote nothing
 pub record IsClosed (begun : ℕ) (decision : Decision) : Type 0 where

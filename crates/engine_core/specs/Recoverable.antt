@@ -1,5 +1,5 @@
 -- Which images a power cut may leave, and what is recovered from them.
-use Rattle.std.specs.Prelude.{◌≡◌, ◌≢◌, ◌⊎◌, ℕ, ◌<◌, ◌≤◌, max, ◌&&◌, ◌==◌, true, if◌then◌else◌, List, [], ◌++◌, map, slice_index, Option, Some, None, Contains}
+use Rattle.std.specs.Prelude.{◌≡◌, ◌≢◌, ◌⊎◌, ℕ, ◌-◌, ◌<◌, ◌≤◌, max, ◌&&◌, not, ◌==◌, true, if◌then◌else◌, List, ◌++◌, filter, map, slice_index, Option, Some, None, Contains}
 use Rattle.mv_model.specs.declared.call.Call.{Call}
 use Rattle.mv_model.specs.declared.call.Call.TheVariants as call
 use Rattle.mv_model.specs.declared.reply.Reply.TheVariants as reply
@@ -97,6 +97,11 @@ abbrev pub MayRecoverTo : State → List Entry → List Entry → State → Type
 MayRecoverTo opened history undecided state =
     IsRecoveryOf opened history (after opened history) state ⊎ IsRecoveryOf opened history (after opened (history ++ undecided)) state
 
--- the entry that is due to a commit, while its commit word is stored and isn't durable
+-- the place of the word that decides a call: of a commit, the commit word of its session's object
+abbrev pub deciding_word : Entry → ℕ
+deciding_word entry = commit_word_at (entry.session - 1)
+
+-- of these entries those whose deciding word is stored and isn't durable
 abbrev pub undecided : Device → List Entry → List Entry
-undecided d due = if slice_index d.cached (commit_word_at 0) == slice_index d.durable (commit_word_at 0) then [] else due
+undecided d due =
+    filter (λ entry. not (slice_index d.cached (deciding_word entry) == slice_index d.durable (deciding_word entry))) due

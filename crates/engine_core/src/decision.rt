@@ -31,6 +31,7 @@ pub(crate) struct Decision {
     /// The reply once more: one is for the history, and one for the caller.
     pub copy: Reply,
     pub plan: Option<Plan>,
+    /// The transactions from the decision on. That of a commit is open until the call has its place.
     pub after: Transactions,
     /// When the call gets its place in the history, where that is not at the decision.
     pub late: Option<Late>,
@@ -302,7 +303,7 @@ fn commit<M: Memory>(
         plan: Some(made.plan),
         after: Transactions {
             begun,
-            running: None,
+            running: Some(own),
         },
         late: Some(Late {
             number: last + 1,

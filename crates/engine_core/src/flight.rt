@@ -6,6 +6,7 @@ ghost use Rattle.engine_core.specs.declared.flight.Flight.TheVariants.{Idle, Pla
 ghost use Rattle.engine_core.specs.Decided.{left_of};
 
 use crate::decision::Late;
+use crate::transactions::Transactions;
 use mv_model::{Call, Entry, Reply};
 use pm_model::{Action, Plan};
 use std::mem;
@@ -75,16 +76,22 @@ pub(crate) fn push_entry(history: &mut Vec<Entry>, said: Call, reply: Reply)
     });
 }
 
-/// Puts a commit into the history once so many actions of its plan are left.
-pub(crate) fn place_commit(flight: &mut Flight, history: &mut Vec<Entry>, left: u32)
+/// Puts a commit into the history, and closes its transaction, once so many actions of its plan are left.
+pub(crate) fn place_commit(
+    flight: &mut Flight,
+    transactions: &mut Transactions,
+    history: &mut Vec<Entry>,
+    left: u32,
+)
     requires room { pending flight.old + vec_len history.old ≤ vec_capacity history.old }
     requires small { pending flight.old + vec_len history.old < 2 ^ 32 }
-    ensures placed { IsPlacedAt left flight.old flight.new history.old.items history.new.items }
+    ensures placed { IsPlacedAt left flight.old flight.new transactions.old transactions.new history.old.items history.new.items }
     ensures capacity { vec_capacity history.new ≡ vec_capacity history.old }
 {
     if let Flight::Committing { number, late } = flight {
         let number = *number;
         if *late == left {
+            transactions.running = None;
             push_entry(history, Call::Commit, Reply::Committed { number });
             put_flight(flight, Flight::Placed(Reply::Committed { number }));
         }

@@ -292,6 +292,7 @@ impl<M: Memory> Core<M> {
         self.memory.act(session, action);
         place_commit(
             &mut self.flight,
+            &mut self.transactions,
             &mut self.history,
             actions_left(&self.plan),
         );

@@ -12,6 +12,7 @@ returns g c =
       copied = refl;
       decided = decided;
       late = tt;
+      open_still = tt;
       timed = tt;
       survives = begin-survives words c.args.begun (c.args.begun + 1) c.load-snapshot.result c.in_ok-plan.plan.left _ c.requires.stage c.in_ok-plan.ensures decided;
     }

@@ -5,7 +5,7 @@ use Rattle.mv_model.specs.declared.limits.TheConstants.{MAX_COMMITS}
 use Rattle.image_layout.specs.Fixed.{last_at}
 use Rattle.engine_core.specs.Stage.{high_at}
 use Rattle.engine_core.proofs.Answered.{anyhow, close-takes, closes, commit-takes, spent, stands}
-use Rattle.engine_core.proofs.Commits.{commit-decided, commit-planned, commit-timed}
+use Rattle.engine_core.proofs.Commits.{commit-decided, commit-timed}
 use Rattle.engine_core.proofs.Survivals.{commit-survives}
 use Rattle.engine_core.proofs.decision.commit.Goals as goal
 
@@ -32,13 +32,8 @@ returns-clause-decided g c =
     record {
       copied = refl;
       decided = decided;
-      late = (
-        refl,
-        refl,
-        c.in_ok-made.ensures.later,
-        commit-planned words c.args.begun c.args.own.number c.args.own.rows c.load-first.result c.load-last.result c.requires (sym is_high) (sym is_last) some room (c.load-last.result + 1)
-            c.in_ok-made.made.late c.in_ok-made.made.plan.left refl c.in_ok-made.ensures.left c.in_ok-made.ensures.late,
-      );
+      late = (refl, refl, c.in_ok-made.ensures.later);
+      open_still = refl;
       timed = commit-timed words c.args.begun c.args.own.number c.args.own.rows c.load-first.result c.load-last.result c.requires (sym is_high) (sym is_last) some room (c.load-last.result + 1) c.in_ok-made.made.late c.in_ok-made.ensures.late;
       survives = commit-survives words c.args.begun c.args.own.number c.args.own.rows c.load-first.result c.load-last.result c.requires (sym is_high) (sym is_last) some room (c.load-last.result + 1)
           c.in_ok-made.made.late c.in_ok-made.made.plan.left refl c.in_ok-made.ensures.left c.in_ok-made.ensures.late decided;

@@ -32,6 +32,7 @@ returns-clause-decided g c =
       copied = refl;
       decided = decided;
       late = tt;
+      open_still = tt;
       timed = tt;
       survives = insert-survives words c.args.begun c.args.own (c.load.result + c.args.own.rows) c.key_word.result c.args.number c.in_ok-plan.plan.left _ c.requires is_row few fewer
           c.in_ok-plan.ensures.left decided;

@@ -4,12 +4,14 @@ use Rattle.engine_core.specs.CoreState.{IsPlacedAt}
 use Rattle.engine_core.specs.Decided.{left_of}
 use Rattle.engine_core.proofs.CoreSteps.{busy, one-event}
 use Rattle.engine_core.proofs.Movements.{plays-moves}
-use Rattle.engine_core.proofs.Steps.{plays, under_way-can}
+use Rattle.engine_core.proofs.Steps.{can, plays}
 use Rattle.engine_core.proofs.store_core.Core.play.Goals as goal
 
 pub act-requires-clause-can_act : goal.act-requires-clause-can_act
 act-requires-clause-can_act g c =
-    under_way-can (g.M.Memory.device c.self.inside.memory) (left_of c.self.inside.plan) (left_of c.next_action.new.plan) c.in-Some.action c.in-Some.ensures.first c.self.invariant.0.under_way
+    let inside = c.self.inside in
+    can inside.opened.items (g.M.Memory.device inside.memory) inside.history.items inside.transactions (left_of inside.plan) (left_of c.next_action.new.plan) c.in-Some.action inside.flight
+    inside.events_left inside.played inside.started c.in-Some.ensures.first c.self.invariant.0
 
 pub place_commit-requires-clause-small : goal.place_commit-requires-clause-small
 place_commit-requires-clause-small g c = let count = c.self.invariant.0.count in omega (arith, count, c.self.inside.history.ok.0)
@@ -25,8 +27,8 @@ invariant_of-self g c =
     let event = one-event inside.flight left inside.events_left (busy inside.flight left inside.events_left some kept.bounded) kept.bounded in
     let one : inside.events_left ≡ inside.events_left - 1 + 1 = omega (arith, event) in
     let acts = c.act.ensures ∙ ap (λ (s : ℕ). acted s c.in-Some.action d) c.requires.session in
-    let places = subst (λ (n : ℕ). IsPlacedAt n inside.flight c.place_commit.new.flight inside.history.items c.place_commit.new.history.items) c.actions_left.ensures c.place_commit.ensures.placed in
-    let now = plays inside.opened.items d (g.M.Memory.device c.act.new.self) inside.history.items c.place_commit.new.history.items inside.transactions left rest c.in-Some.action inside.flight c.place_commit.new.flight
+    let places = subst (λ (n : ℕ). IsPlacedAt n inside.flight c.place_commit.new.flight inside.transactions c.place_commit.new.transactions inside.history.items c.place_commit.new.history.items) c.actions_left.ensures c.place_commit.ensures.placed in
+    let now = plays inside.opened.items d (g.M.Memory.device c.act.new.self) inside.history.items c.place_commit.new.history.items inside.transactions c.place_commit.new.transactions left rest c.in-Some.action inside.flight c.place_commit.new.flight
     inside.events_left (inside.events_left - 1) inside.played inside.started c.in-Some.ensures.first acts one places kept in
     let before = kept.count in
     let after = now.count in
@@ -41,10 +43,11 @@ returns-clause-event g c =
     let event = one-event inside.flight left inside.events_left (busy inside.flight left inside.events_left some kept.bounded) kept.bounded in
     let rest = left_of c.next_action.new.plan in
     let acts = c.act.ensures ∙ ap (λ (s : ℕ). acted s c.in-Some.action (g.M.Memory.device inside.memory)) c.requires.session in
-    let places = subst (λ (n : ℕ). IsPlacedAt n inside.flight c.place_commit.new.flight inside.history.items c.place_commit.new.history.items) c.actions_left.ensures c.place_commit.ensures.placed in
+    let places = subst (λ (n : ℕ). IsPlacedAt n inside.flight c.place_commit.new.flight inside.transactions c.place_commit.new.transactions inside.history.items c.place_commit.new.history.items) c.actions_left.ensures c.place_commit.ensures.placed in
     rw (← c.self.view_is) (record {
       moves = plays-moves _ inside.memory c.act.new.self inside.opened.items inside.history.items c.place_commit.new.history.items (length left) (length rest) inside.events_left (inside.events_left - 1) inside.played (inside.played + 1) inside.started
-          (g.M.Memory.device inside.memory) (g.M.Memory.device c.act.new.self) left rest c.in-Some.action inside.flight c.place_commit.new.flight c.in-Some.ensures.first refl acts kept.commit places kept.count;
+          (g.M.Memory.device inside.memory) (g.M.Memory.device c.act.new.self) left rest c.in-Some.action inside.flight c.place_commit.new.flight inside.transactions c.place_commit.new.transactions kept.plans kept.base c.in-Some.ensures.first refl acts
+          kept.playing kept.others kept.plan kept.bounded places kept.count;
       opened = refl;
       started = refl;
       events = omega (arith, event);

@@ -1,0 +1,154 @@
+-- Session 1 plays alone: the words when its plan has ended, and when its next plan joins.
+use Rattle.std.proofs.Common.{◌≡◌, ◌≢◌, ℕ, ◌<◌, Bool, true, false, List, [], ◌∷◌, length, get_or, refl, sym, ◌∙◌, ap, subst, arith}
+use Rattle.std.proofs.lemmas.Bool.{both_ways}
+use Rattle.pm_model.specs.declared.action.Action.{Action}
+use Rattle.pm_model.specs.Device.{Device, acted, IsClean}
+use Rattle.pm_model.specs.ManyPlans.{Progress}
+use Rattle.pm_model.specs.Plans.{Play, Part, IsPlan, IsPlayable, IsPlaying, EachCut, finished, footprint, plan_of}
+use Rattle.pm_model.specs.Changes.{Change, HoldsOnWords}
+use Rattle.pm_model.proofs.Words.{ext_words}
+use Rattle.pm_model.proofs.PlanLaw.{plan_goes_on}
+use Rattle.side_by_side.specs.SideBySide.{Plans, left_of, advanced, begun, idle, with_plan, ArePlaying, HoldsAtEachCut, MayJoin, SurvivesBeside, without}
+use Rattle.side_by_side.specs.Standing.{stands}
+use Rattle.side_by_side.proofs.Changed.{survives_beside}
+use Rattle.side_by_side.proofs.Cutting.{holds-plays, playing-plays, with-elim, with-other, with-same}
+use Rattle.side_by_side.proofs.Joining.{holds-ends, holds-joins, playing-ends, playing-joins}
+use Rattle.side_by_side.proofs.Standing.{length-stands, stands-base, stands-ends, stands-joins, stands-plays}
+
+-- no session but 1 owns a word
+abbrev pub AreAlone : Plans → Type 0
+AreAlone plans = (session w : ℕ) → session ≢ 1 → (plans session).play.own w ≡ false
+
+-- no session owns one
+abbrev pub AreIdle : Plans → Type 0
+AreIdle plans = (session w : ℕ) → (plans session).play.own w ≡ false
+
+pub alone-with : (plans : Plans) (p : Progress) → AreAlone plans → AreAlone (with_plan plans 1 p)
+alone-with plans p others session w apart = subst (λ (q : Progress). q.play.own w ≡ false) (sym (with-other plans 1 p session apart)) (others session w apart)
+
+-- ── an action ──
+
+module _ (plans : Plans) (base : List ℕ) (d after : Device) (action : Action) (rest : List Action) (all : ArePlaying 17 plans base d)
+    (first : left_of (plans 1) ≡ action ∷ rest) (acts : after ≡ acted 1 action d) where
+  abbrev pub moved : Plans
+  moved = with_plan plans 1 (advanced (plans 1))
+
+  pub moved-one : moved 1 ≡ advanced (plans 1)
+  moved-one = with-same plans 1 (advanced (plans 1)) 1 refl
+
+  pub moved-playing : ArePlaying 17 moved base after
+  moved-playing = subst (λ (x : Device). ArePlaying 17 moved base x) (sym acts) (playing-plays 17 plans base 1 (omega arith) d all action rest first)
+
+  pub moved-left : left_of (moved 1) ≡ rest
+  moved-left = ap left_of moved-one
+      ∙ (plan_goes_on (plans 1).play (plans 1).played d action rest (subst (λ (l : List Action). IsPlaying (plans 1).play (plans 1).played l d) first (all.playing 1 (omega arith)))).rest
+
+  pub moved-stands : (placed : ℕ → Bool) → stands 17 moved placed base ≡ stands 17 plans placed base
+  moved-stands placed = stands-plays 17 plans moved placed base
+      (λ t. with-elim (λ q. q.play ≡ (plans t).play) plans 1 (advanced (plans 1)) t (λ (is : t ≡ 1). ap (λ (u : ℕ). (plans u).play) (sym is)) (λ apart. refl))
+
+  pub moved-holds : (P : (ℕ → ℕ) → List ℕ → Type 0) → HoldsAtEachCut 17 P plans base → HoldsAtEachCut 17 P moved base
+  moved-holds P holds = holds-plays 17 plans base 1 (omega arith) P holds
+
+-- ── the plan has ended ──
+
+module _ (plans : Plans) (base : List ℕ) (d : Device) (all : ArePlaying 17 plans base d) (others : AreAlone plans) (none : left_of (plans 1) ≡ []) where
+  abbrev ended : List ℕ
+  ended = finished (plans 1).play.parts base
+
+  abbrev pub rested : List ℕ → Plans
+  rested words = with_plan plans 1 (idle 1 words)
+
+  pub rested-idle : (words : List ℕ) → AreIdle (rested words)
+  rested-idle words session w = with-elim (λ q. q.play.own w ≡ false) plans 1 (idle 1 words) session (λ is. refl) (λ apart. others session w apart)
+
+  playing_then : ArePlaying 17 (rested ended) ended d
+  playing_then = playing-ends 17 plans base 1 (omega arith) d all none
+
+  -- the device has the words after it
+  pub rested-cached : ended ≡ d.cached
+  rested-cached = ext_words ended d.cached playing_then.size (λ w. playing_then.free w (λ s lt. rested-idle ended s w))
+
+  pub rested-clean : (w : ℕ) → IsClean d w
+  rested-clean w = playing_then.clean w (λ s lt. rested-idle ended s w)
+
+  pub rested-playing : ArePlaying 17 (rested d.cached) d.cached d
+  rested-playing = subst (λ (words : List ℕ). ArePlaying 17 (rested words) words d) rested-cached playing_then
+
+  pub rested-holds : (P : (ℕ → ℕ) → List ℕ → Type 0) → HoldsAtEachCut 17 P plans base → HoldsAtEachCut 17 P (rested d.cached) d.cached
+  rested-holds P holds = subst (λ (words : List ℕ). HoldsAtEachCut 17 P (rested words) words) rested-cached (holds-ends 17 plans base 1 (omega arith) d all none P holds)
+
+  -- and the words stand for these, where its call had its place
+  pub rested-stands : (placed : ℕ → Bool) → placed 1 ≡ true → stands 17 plans placed base ≡ d.cached
+  rested-stands placed is =
+      sym (stands-ends 17 plans base 1 (omega arith) d all none placed placed (λ t apart. refl) is)
+      ∙ ext_words (stands 17 (rested ended) placed ended) d.cached
+      (length-stands 17 (rested ended) placed ended ∙ playing_then.size)
+      (λ w. stands-base 17 (rested ended) ended d playing_then placed 17 w (omega arith) (λ t lt _. rested-idle ended t w)
+      ∙ ap (λ (words : List ℕ). get_or words w 0) rested-cached)
+
+-- where its call waits for its place, the words stand for the base
+pub stands-waiting : (plans : Plans) (base : List ℕ) (d : Device) (placed : ℕ → Bool) → ArePlaying 17 plans base d → AreAlone plans → placed 1 ≡ false → stands 17 plans placed base ≡ base
+stands-waiting plans base d placed all others waits = ext_words (stands 17 plans placed base) base (length-stands 17 plans placed base)
+    (λ w. stands-base 17 plans base d all placed 17 w (omega arith)
+    (λ t lt is. others t w (λ same. both_ways (placed 1) waits (subst (λ (u : ℕ). placed u ≡ true) same is))))
+
+-- ── its next plan ──
+
+module _ (plans : Plans) (d : Device) (all : ArePlaying 17 plans d.cached d) (none : AreIdle plans) (parts : List Part) (plan : IsPlan (length d.cached) parts) where
+  abbrev pub next_play : Play
+  next_play = record { own = footprint (plan_of parts); session = 1; parts = parts; start = d.cached }
+
+  playable : IsPlayable next_play
+  playable = record { plan = plan; within = λ w hit. hit }
+
+  may : MayJoin 17 1 plans next_play d
+  may = record { session_is = refl; start = refl; apart = λ t w lt apart hit. none t w; idle = λ w. none 1 w }
+
+  abbrev pub joined : Plans
+  joined = with_plan plans 1 (begun next_play)
+
+  pub joined-one : joined 1 ≡ begun next_play
+  joined-one = with-same plans 1 (begun next_play) 1 refl
+
+  pub joined-playing : ArePlaying 17 joined d.cached d
+  joined-playing = playing-joins 17 plans d.cached 1 (omega arith) next_play d all playable may
+
+  pub joined-alone : AreAlone joined
+  joined-alone = alone-with plans (begun next_play) (λ session w apart. none session w)
+
+  pub joined-holds : (P Q : (ℕ → ℕ) → List ℕ → Type 0) → SurvivesBeside 1 P Q (λ w. true) d.cached parts → HoldsAtEachCut 17 P plans d.cached → HoldsAtEachCut 17 Q joined d.cached
+  joined-holds P Q law holds = holds-joins 17 plans d.cached 1 (omega arith) next_play P Q (λ w. true)
+      (λ w hit. hit) refl (λ t w lt apart hit. none t w) (λ w. none 1 w) (λ t w lt apart hit. none t w) law holds
+
+  -- where its call has its place, the words stand for those after it
+  pub joined-stands : (placed : ℕ → Bool) → placed 1 ≡ true → stands 17 joined placed d.cached ≡ finished parts d.cached
+  joined-stands placed is =
+      stands-joins 17 plans d.cached 1 (omega arith) next_play d all playable may placed placed (λ t apart. refl) is
+      ∙ ap (finished parts) (ext_words (stands 17 plans placed d.cached) d.cached (length-stands 17 plans placed d.cached)
+      (λ w. stands-base 17 plans d.cached d all placed 17 w (omega arith) (λ t lt _. none t w)))
+
+-- ── the law of a plan that is played alone ──
+
+-- From words that have P, each cut that shows A has Q while actions are left, and each end that shows B has it once none is.
+pub survives-alone : (P Q : (ℕ → ℕ) → List ℕ → Type 0) (A B : List ℕ → Type 0) (base : List ℕ) (parts : List Part)
+    → IsPlan (length base) parts → EachCut A parts base → B (finished parts base)
+    → ((left : ℕ → ℕ) (image : List ℕ) → P (without 1 left) base → 0 < left 1 → A image → Q left image)
+    → ((left : ℕ → ℕ) (image : List ℕ) → P (without 1 left) base → left 1 ≡ 0 → B image → Q left image)
+    → SurvivesBeside 1 P Q (λ w. true) base parts
+survives-alone P Q A B base parts plan cuts end gives ends =
+    survives_beside change P Q 1 (λ w. true) base holds refl
+    (λ left words size same p. ext_words words base size (λ w. same w refl))
+    (λ left words image is p some shows. gives left image (subst (P (without 1 left)) is p) some shows)
+    (λ left words image is p none shows. ends left image (subst (P (without 1 left)) is p) none shows)
+  where
+    change : Change
+    change = record { asks = λ words. words ≡ base; parts = λ words. parts; shows = λ words. A; ends = λ words. B; reads = λ old new. new ≡ old }
+
+    holds : HoldsOnWords change
+    holds = record {
+      plan = λ words is. subst (λ (ws : List ℕ). IsPlan (length ws) parts) (sym is) plan;
+      cuts = λ words is. subst (λ (ws : List ℕ). EachCut A parts ws) (sym is) cuts;
+      end = λ words is. subst (λ (ws : List ℕ). B (finished parts ws)) (sym is) end;
+      stable = λ old new same is. (same ∙ is, refl);
+    }
