@@ -2,6 +2,7 @@
 ghost use Rattle.std.specs.Prelude.{◌≡◌, ◌+◌, ◌*◌, ◌<◌, ◌≤◌, length};
 
 use crate::pages::Pages;
+use image_layout::inner_columns;
 use pm_model::{
     BIG_HEAD, FIRST_SLOT, LAST_SMALL_PAGE, MAX_CHUNKS, MAX_COLUMNS, OBJECTS, PAGE_WORDS, PPtr,
     Page, Place, TABLES, chunk_pages, chunk_pointer, codes_header, column, column_count,
@@ -88,6 +89,7 @@ fn put_big(words: &mut [u64], page: u32, count: u32) -> Place
 // A table with 16 columns of integers and a bound of 1,536 rows.
 fn put_table(words: &mut [u64], block: TableBlock, table: u8) {
     put(words, column_count(block.first), u64::from(MAX_COLUMNS));
+    put(words, inner_columns(block.first), u64::from(MAX_COLUMNS));
     put(words, high(block.first), ROWS);
     put(words, table_name(block.first), name(table));
     for number in 0..MAX_COLUMNS {
