@@ -171,6 +171,22 @@ fn printed(alloc: Global, rows: &[Values]) -> Result<Vec<u8>, NoMemory> {
     rows_text(alloc, slices.as_slice())
 }
 
+/// The rows of two texts, of one field and of two, are written one after the other.
+fn is_written_in_turn(alloc: Global) -> Result<bool, LoadError> {
+    let mut rows = rows_of(alloc, "i", b"7\n")?;
+    for row in rows_of(alloc, "it", b"8,\"a,b\"\n")? {
+        rows.push(row)?;
+    }
+    let text = printed(alloc, rows.as_slice())?;
+    Ok(text.as_slice() == b"7\n8,\"a,b\"\n".as_slice())
+}
+
+#[test]
+fn rows_of_other_lengths(rt: HostRuntime) -> Result<(), Fail> {
+    assert!(rt; is_written_in_turn(rt.alloc())?);
+    Ok(())
+}
+
 /// How many rows the text has, if they are written as the text again, and these read and written once more.
 fn round_trip(alloc: Global, text: &[u8]) -> Result<usize, LoadError> {
     let rows = rows_of(alloc, "ittiii", text)?;

@@ -1,5 +1,6 @@
 use drill::{
-    Counted, Move, Standing, Summary, count_replies, move_at, pick, script_of, summary_text,
+    Counted, Move, Standing, Summary, count_replies, is_cut_turn, move_at, pick, script_of,
+    summary_of, summary_text,
 };
 use mv_model::{Call, Entry, NoMemory, Pred, Reply, Test, Value, Values};
 use script_text::{Line, Script};
@@ -200,6 +201,44 @@ fn moves(rt: HostRuntime) {
         ([done, done, done, done], Move::Over),
     ] {
         assert_eq!(rt; move_at(7, 0, &sessions), due);
+    }
+}
+
+#[test]
+fn turns_with_a_cut(rt: HostRuntime) {
+    for (turn, cut) in [
+        (0, false),
+        (1, false),
+        (1_023, false),
+        (1_024, true),
+        (1_025, false),
+        (2_048, true),
+        (3_000, false),
+        (1_048_576, true),
+    ] {
+        assert_eq!(rt; is_cut_turn(turn), cut);
+    }
+}
+
+/// How many cuts the summary of a run with no statement tells.
+fn cuts(turns: u64) -> u64 {
+    let history: [Entry; 0] = [];
+    summary_of(7, 1, history.as_slice(), 0, turns).cuts
+}
+
+/// Turn 1,024 is the 1,025th.
+#[test]
+fn cuts_of_a_run(rt: HostRuntime) {
+    for (turns, due) in [
+        (0, 0),
+        (1, 0),
+        (1_024, 0),
+        (1_025, 1),
+        (2_048, 1),
+        (2_049, 2),
+        (10_000, 9),
+    ] {
+        assert_eq!(rt; cuts(turns), due);
     }
 }
 
