@@ -1,0 +1,3 @@
+mod FreshWords
+mod OneTransaction
+mod FirstTable

@@ -1,0 +1,2 @@
+pub mod OneTransaction
+pub mod FirstTable

@@ -1,0 +1,62 @@
+// Laws whose premises are met over a formatted image, each the contract of a function that does nothing.
+ghost use Rattle.std.specs.Prelude.{◌≡◌, ℕ, ◌<◌, [], ◌∷◌, List};
+ghost use Rattle.image_layout.specs.Fresh.{fresh_words};
+ghost use Rattle.mv_model.specs.declared.reply.Entry.{Entry as Answered};
+ghost use Rattle.mv_model.specs.declared.shape.Column.{Column};
+ghost use Rattle.mv_model.specs.Consistent.{IsConsistent};
+ghost use Rattle.mv_model.specs.History.{IsLegal, state_after};
+ghost use Rattle.txn_object.specs.declared.entry.Entry.{Entry};
+ghost use Rattle.txn_object.specs.Changes.{begun, with_entry, no_transaction};
+ghost use Rattle.txn_object.specs.Changes.{ClearsAll, ClearsCommit, IsBeginBefore, IsEntryBefore, IsSpelt};
+ghost use Rattle.txn_object.specs.Shown.{MayAddEntry, Shows};
+ghost use Rattle.shown_state.specs.LogicalState.{logical_state};
+ghost use Rattle.catalog.specs.Changes.{IsCreationOn};
+ghost use Rattle.catalog.specs.Entries.{HasNames, published_tables};
+ghost use Rattle.catalog.specs.Shown.{new_table, shown_table, IsCreated};
+ghost use Rattle.law_instances.specs.FirstTable.{HasRoom, first_table, first_words};
+ghost use Rattle.law_instances.specs.OneTransaction.{IsFresh, first_entry, one_retired};
+ghost use Rattle.law_instances.specs.OneTransaction.{begun_words, entered_words, retired_words};
+
+/// One transaction with one entry, in any object of a formatted image: what the laws of a begin, of an entry and of a
+/// retire ask is met, each over the words that the plan before it leaves, and the next transaction may have its first
+/// entry.
+pub fn transaction_law()
+    ensures begins { (segments object : ℕ) → IsFresh segments object →
+        IsBeginBefore (fresh_words segments) object no_transaction [] }
+    ensures enters { (segments object : ℕ) (entry : Entry) → IsFresh segments object → IsSpelt entry →
+        IsEntryBefore (begun_words segments object) (first_entry object entry) (begun no_transaction) [] }
+    ensures entered { (segments object : ℕ) (entry : Entry) → IsFresh segments object → IsSpelt entry →
+        Shows (entered_words segments object entry) object (with_entry (begun no_transaction) entry) }
+    ensures clears { (segments object : ℕ) (entry : Entry) → IsFresh segments object → IsSpelt entry →
+        ClearsAll (entered_words segments object entry) (one_retired object) }
+    ensures commit { (segments object : ℕ) (entry : Entry) → IsFresh segments object → IsSpelt entry →
+        ClearsCommit (entered_words segments object entry) (one_retired object) }
+    ensures over { (segments object : ℕ) (entry : Entry) → IsFresh segments object → IsSpelt entry →
+        Shows (retired_words segments object entry) object no_transaction }
+    ensures again { (segments object : ℕ) (entry other : Entry) →
+        IsFresh segments object → IsSpelt entry → IsSpelt other →
+        MayAddEntry (retired_words segments object entry) object 0 other }
+{}
+
+/// The first table of a formatted image, of up to 5 columns: what the law of a creation asks is met. After its last
+/// action it is the one table that the image shows and publishes.
+pub fn creation_law()
+    ensures asked { (segments : ℕ) (name : List ℕ) (columns : List Column) → HasRoom segments columns →
+        IsCreationOn (fresh_words segments) (first_table name columns) }
+    ensures created { (segments : ℕ) (name : List ℕ) (columns : List Column) → HasRoom segments columns →
+        IsCreated (fresh_words segments) (first_table name columns) (first_words segments name columns) }
+    ensures shown { (segments : ℕ) (name : List ℕ) (columns : List Column) →
+        HasRoom segments columns → HasNames name columns →
+        (logical_state (first_words segments name columns)).tables ≡ shown_table (first_table name columns) ∷ [] }
+    ensures published { (segments : ℕ) (name : List ℕ) (columns : List Column) →
+        HasRoom segments columns → HasNames name columns →
+        published_tables (first_words segments name columns) ≡ new_table (first_table name columns) ∷ [] }
+{}
+
+/// A formatted image shows a consistent state, and so is each state of a history that is legal from it.
+pub fn consistency_law()
+    ensures formatted { (segments : ℕ) → 0 < segments → IsConsistent (logical_state (fresh_words segments)) }
+    ensures histories { (segments : ℕ) (entries : List Answered) → 0 < segments →
+        IsLegal (logical_state (fresh_words segments)) entries →
+        IsConsistent (state_after (logical_state (fresh_words segments)) entries) }
+{}

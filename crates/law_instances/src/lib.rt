@@ -1,0 +1,13 @@
+//! That laws about plans say something: what they ask is met, one after the other, over a formatted image.
+//!
+//! Layer: tests, above `txn_object` and `catalog`, whose laws it uses as a caller does. It has no code.
+//!
+//! State: none.
+//!
+//! Laws: `transaction_law` (a begin, an entry and a retire, each over the words that the one before it leaves),
+//! `creation_law` (the first table), `consistency_law` (the states of a store's histories).
+#![tactic(auto)]
+
+mod laws;
+
+pub use laws::{consistency_law, creation_law, transaction_law};
