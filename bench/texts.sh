@@ -1,41 +1,54 @@
-#!/bin/sh
-# Times the reading of scripts and values and the printing of histories, against copying the file's bytes: for each case
-# the least of five runs with its rounds, less the least of five with none, divided by the rounds.
-cd "$(dirname "$0")/.." || exit 1
-folder=$(mktemp -d) || exit 1
+#!/usr/bin/env bash
+# What it costs to read scripts and values and to print histories, beside copying the file's bytes. Instructions are those
+# that callgrind counts, as the difference of runs with two rounds and with one; times are those of the processor, the
+# least of five differences of runs with eleven rounds and with one. It wants rt on the path, and valgrind.
+set -euo pipefail
+cd "$(dirname "$0")/.."
+folder=$(mktemp -d)
 trap 'rm -rf "$folder"' EXIT
-bench/make_script 1 built >"$folder/file"
-(cd crates/bench_texts && rt run -- "$folder/file" 1 read) >/dev/null 2>&1 || exit 1
+(cd crates/bench_texts && rt run) >/dev/null 2>&1
+program=crates/bench_texts/out/bench_texts
 
-# The least time of five runs with these arguments, in microseconds.
+# instructions ROUNDS WORK
+instructions() {
+    valgrind --tool=callgrind --callgrind-out-file=/dev/null "$program" "$folder/file" "$@" 2>&1 >/dev/null |
+        sed -n 's/.*Collected : //p'
+}
+
+# Microseconds of the processor: ROUNDS WORK
+spent() {
+    local TIMEFORMAT='%3U %3S'
+    { time "$program" "$folder/file" "$@" >/dev/null; } 2>&1 | awk '{ printf "%.0f", ($1 + $2) * 1000000 }'
+}
+
+# The least of five differences: WORK
 least() {
-    best=
+    local best= took
     for _ in 1 2 3 4 5; do
-        start=$(date +%s%N)
-        crates/bench_texts/out/bench_texts "$@" >/dev/null || exit 1
-        spent=$((($(date +%s%N) - start) / 1000))
-        if [ -z "$best" ] || [ "$spent" -lt "$best" ]; then best=$spent; fi
+        took=$((($(spent 11 "$1") - $(spent 1 "$1")) / 10))
+        if [ -z "$best" ] || [ "$took" -lt "$best" ]; then best=$took; fi
     done
     echo "$best"
 }
 
-# The lines of one file: what its lines are, how many, the rounds, and what is done with it.
+# The rows of one file: what its lines are, how many, and what is done with it.
 measure() {
     bench/make_script "$2" "$1" >"$folder/file"
-    bytes=$(wc -c <"$folder/file")
-    for work in copy $4; do
-        spent=$(($(least "$folder/file" "$3" $work) - $(least "$folder/file" 0 $work)))
-        if [ $work = copy ]; then copied=$spent; fi
-        awk -v kind="$1" -v lines="$2" -v rounds="$3" -v work=$work -v bytes="$bytes" -v spent=$spent -v copied="$copied" 'BEGIN {
-            printf "| %s | %d | %s | %.3f | %d | %.1f %% |\n", kind, lines, work,
-                spent / rounds / 1000, 1000 * spent / rounds / lines, 100 * copied / spent
+    local copied=0 took work count
+    for work in copy $3; do
+        count=$(($(instructions 2 "$work") - $(instructions 1 "$work")))
+        took=$(least "$work")
+        if [ "$work" = copy ]; then copied=$took; fi
+        awk -v kind="$1" -v lines="$2" -v work="$work" -v count=$count -v took="$took" -v copied="$copied" 'BEGIN {
+            printf "| %s | %d | %s | %d | %d | %.2f | %.0f %% |\n", kind, lines, work, count, count / lines, took / 1000,
+                took > 0 ? 100 * copied / took : 100
         }'
     done
 }
 
-echo "| lines | how many | work | ms | ns a line | of copying |"
-echo "|---|---|---|---|---|---|"
-for lines in 10000 50000 100000; do measure built $lines 10 read; done
-for lines in 10000 50000 100000; do measure all $lines 10 lines; done
-for lines in 10000 100000; do measure integers $lines 10 "values history"; done
-for lines in 1000 10000; do measure texts $lines 10 "values history"; done
+echo "| lines | how many | work | instructions | a line | ms | of copying's speed |"
+echo "|---|---|---|---|---|---|---|"
+for lines in 10000 50000 100000; do measure built $lines read; done
+for lines in 10000 50000 100000; do measure all $lines lines; done
+for lines in 10000 100000; do measure integers $lines "values history"; done
+for lines in 1000 10000; do measure texts $lines "values history"; done
