@@ -1,6 +1,8 @@
 -- What the functions of a core rest on.
-use Rattle.std.proofs.Common.{◌≡◌, ◌≢◌, ℕ, suc, ◌-◌, ◌<◌, ◌≤◌, ◌∙◌, List, [], ◌∷◌, ◌++◌, length, get_or, set, refl, ap, sym, subst, arith}
+use Rattle.std.proofs.Common.{◌≡◌, ◌≢◌, IsTrue, false, inl, inr, true, ℕ, suc, ◌-◌, ◌<◌, ◌≤◌, ◌∙◌, List, [], ◌∷◌, ◌++◌, length, get_or, set, refl, ap, sym, subst, arith}
+use Rattle.std.proofs.lemmas.Bool.Decides.{eqb_tells}
 use Rattle.std.proofs.lemmas.List.{length-append}
+use Rattle.built_calls.specs.Built.{is_built_session}
 use Rattle.mv_model.specs.declared.reply.Entry.{Entry}
 use Rattle.pm_model.specs.declared.action.Action.{Action}
 use Rattle.engine_core.specs.CoreState.{Nothing, Last, IsAnswered, IsAnsweredButFor, IsWaiting, in_flight_of}
@@ -13,6 +15,14 @@ is_idle flight.Idle is = refl
 is_idle (flight.Waiting said) is = cc
 is_idle (flight.Committing number late) is = cc
 is_idle (flight.Placed given) is = cc
+
+-- the session that is built is the first
+pub first-session : (session : ℕ) → IsTrue (is_built_session session) → session ≡ 1
+first-session session built =
+    elim (eqb_tells session 1) [
+      | inl w ↦ w.1
+      | inr w ↦ absurd (let e : false ≡ true = rw w.0 at built in cc)
+    ]
 
 -- exactly the entry of a call in flight isn't answered
 pub answers-seen : (in_flight : Flight) (history : List Entry) → IsAnswered in_flight history → IsAnsweredButFor (in_flight_of in_flight) history

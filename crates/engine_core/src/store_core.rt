@@ -15,6 +15,7 @@ ghost use Rattle.engine_core.specs.Recoverable.{IsRecoverable, MayRecoverTo, und
 ghost use Rattle.engine_core.specs.Served.{is_served};
 ghost use Rattle.engine_core.specs.declared.store_core.OpenError.TheVariants.{NoMemory as OutOfMemory};
 ghost use Rattle.mv_model.specs.Answer.{columns_of, table_named};
+ghost use Rattle.built_calls.specs.Built.{is_built_session};
 
 use crate::decision::decide;
 use crate::flight::{
@@ -151,7 +152,7 @@ impl<M: Memory> Core<M> {
     /// Takes a call of a session that has none in flight. Where memory is refused, the core is as before, and the call
     /// is dropped.
     pub fn start(&mut self, session: u8, said: Call) -> Result<(), NoMemory>
-        requires session { session ≡ 1 }
+        requires session { IsTrue (is_built_session session) }
         requires free { self.old.in_flight ≡ Nothing }
         requires served { IsTrue (is_served said) }
         requires room { self.old.started < 2 ^ 32 - 1 }
@@ -173,7 +174,7 @@ impl<M: Memory> Core<M> {
 
     /// One event of a session with a call in flight: one action of its plan, its decision, or its reply.
     pub fn step(&mut self, session: u8) -> Step
-        requires session { session ≡ 1 }
+        requires session { IsTrue (is_built_session session) }
         requires in_flight { self.old.in_flight ≢ Nothing }
         ensures device { ActsOnce result 1 (M.device self.old.memory) (M.device self.new.memory) }
         ensures event { IsEvent result (M.device self.old.memory) (M.device self.new.memory) self.old self.new }
@@ -191,7 +192,7 @@ impl<M: Memory> Core<M> {
 
     /// Whether a session has a call in flight. Without one nothing is left to play.
     pub fn in_flight(&self, session: u8) -> bool
-        requires { session ≡ 1 }
+        requires session { IsTrue (is_built_session session) }
         ensures some { (result ≡ false) ↔ (self.now.in_flight ≡ Nothing) }
         ensures idle { self.now.in_flight ≡ Nothing → (self.now.to_play ≡ 0) × (self.now.due ≡ []) }
     {
@@ -281,7 +282,7 @@ impl<M: Memory> Core<M> {
 
     // Plays the next action of the plan.
     fn play(&mut self, session: u8)
-        requires session { session ≡ 1 }
+        requires session { IsTrue (is_built_session session) }
         requires to_play { 0 < self.old.to_play }
         ensures device { ActsOnce Played 1 (M.device self.old.memory) (M.device self.new.memory) }
         ensures event { IsEvent Played (M.device self.old.memory) (M.device self.new.memory) self.old self.new }

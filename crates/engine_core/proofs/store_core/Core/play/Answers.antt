@@ -2,7 +2,7 @@ use Rattle.std.proofs.Common.{◌≡◌, ◌∙◌, ◌+◌, ◌-◌, ◌<◌, �
 use Rattle.pm_model.specs.Device.{acted}
 use Rattle.engine_core.specs.CoreState.{IsPlacedAt}
 use Rattle.engine_core.specs.Decided.{left_of}
-use Rattle.engine_core.proofs.CoreSteps.{busy, one-event}
+use Rattle.engine_core.proofs.CoreSteps.{busy, first-session, one-event}
 use Rattle.engine_core.proofs.Movements.{plays-moves}
 use Rattle.engine_core.proofs.Steps.{can, plays}
 use Rattle.engine_core.proofs.store_core.Core.play.Goals as goal
@@ -26,7 +26,7 @@ invariant_of-self g c =
     let some : 0 < length left = rw (← c.self.view_is) at c.requires.to_play in
     let event = one-event inside.flight left inside.events_left (busy inside.flight left inside.events_left some kept.bounded) kept.bounded in
     let one : inside.events_left ≡ inside.events_left - 1 + 1 = omega (arith, event) in
-    let acts = c.act.ensures ∙ ap (λ (s : ℕ). acted s c.in-Some.action d) c.requires.session in
+    let acts = c.act.ensures ∙ ap (λ (s : ℕ). acted s c.in-Some.action d) (first-session _ c.requires.session) in
     let places = subst (λ (n : ℕ). IsPlacedAt n inside.flight c.place_commit.new.flight inside.transactions c.place_commit.new.transactions inside.history.items c.place_commit.new.history.items) c.actions_left.ensures c.place_commit.ensures.placed in
     let now = plays inside.opened.items d (g.M.Memory.device c.act.new.self) inside.history.items c.place_commit.new.history.items inside.transactions c.place_commit.new.transactions left rest c.in-Some.action inside.flight c.place_commit.new.flight
     inside.events_left (inside.events_left - 1) inside.played inside.started c.in-Some.ensures.first acts one places kept in
@@ -42,7 +42,7 @@ returns-clause-event g c =
     let some : 0 < length left = rw (← c.self.view_is) at c.requires.to_play in
     let event = one-event inside.flight left inside.events_left (busy inside.flight left inside.events_left some kept.bounded) kept.bounded in
     let rest = left_of c.next_action.new.plan in
-    let acts = c.act.ensures ∙ ap (λ (s : ℕ). acted s c.in-Some.action (g.M.Memory.device inside.memory)) c.requires.session in
+    let acts = c.act.ensures ∙ ap (λ (s : ℕ). acted s c.in-Some.action (g.M.Memory.device inside.memory)) (first-session _ c.requires.session) in
     let places = subst (λ (n : ℕ). IsPlacedAt n inside.flight c.place_commit.new.flight inside.transactions c.place_commit.new.transactions inside.history.items c.place_commit.new.history.items) c.actions_left.ensures c.place_commit.ensures.placed in
     rw (← c.self.view_is) (record {
       moves = plays-moves _ inside.memory c.act.new.self inside.opened.items inside.history.items c.place_commit.new.history.items (length left) (length rest) inside.events_left (inside.events_left - 1) inside.played (inside.played + 1) inside.started
@@ -63,4 +63,4 @@ overflow_sub-self g c =
 
 pub returns-clause-device : goal.returns-clause-device
 returns-clause-device g c =
-    rw (← c.self.view_is) (c.in-Some.action, c.act.ensures ∙ ap (λ (s : ℕ). acted s c.in-Some.action (g.M.Memory.device c.self.inside.memory)) c.requires.session)
+    rw (← c.self.view_is) (c.in-Some.action, c.act.ensures ∙ ap (λ (s : ℕ). acted s c.in-Some.action (g.M.Memory.device c.self.inside.memory)) (first-session _ c.requires.session))
