@@ -171,7 +171,7 @@ module _ (old new : List ℕ) (image : IsImage old) (fits : Fits old) (clear : H
       let was = closer.opens object lt opened in
       and_from (is_open new object) (eqb (commit_word new object) 0) opened (ap (λ (n : ℕ). eqb n 0) was.1 ∙ (and_parts (is_open old object) (eqb (commit_word old object) 0) is).1)
 
-  undecided_same : (object : ℕ) → object < 16 → is_undecided new object ≡ is_undecided old object
+  pub undecided_same : (object : ℕ) → object < 16 → is_undecided new object ≡ is_undecided old object
   undecided_same object lt = ⊎_elim
       (λ (hit : is_undecided old object ≡ true). undecided_on object lt hit ∙ sym hit)
       (λ (miss : is_undecided old object ≡ false). ⊎_elim

@@ -1,4 +1,6 @@
+pub mod Clearing
 pub mod Closer
+pub mod Closing
 pub mod Fitting
 pub mod Idle
 pub mod Keys
@@ -13,6 +15,7 @@ pub mod ReadRules
 pub mod Rows
 pub mod Showing
 pub mod Slots
+pub mod Steps
 pub mod Structure
 pub mod Tables
 pub mod TreeRules

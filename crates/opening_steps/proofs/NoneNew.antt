@@ -16,6 +16,7 @@ use Rattle.shown_state.specs.OpeningParts.{IsImage}
 use Rattle.shown_state.specs.StepLaws.{HaveNoNew}
 use Rattle.shown_state.proofs.ValuesApart.{segment_behind}
 use Rattle.opening_steps.proofs.Idle.{ChangesOnly, columns_same, lanes_idle, logs_null, MayChange, slot_zero, slots_same}
+use Rattle.opening_steps.proofs.ObjectWords.{IsObjectWord, of_entry, of_own}
 use Rattle.opening_steps.proofs.OwnerPlaces.{Contains-take}
 
 module _ (old new : List ℕ) (changed : ℕ → Type 0) (image : IsImage old) (fits : Fits old) (clear : HaveNoNew 512 old) (may : MayChange old changed) (only : ChangesOnly changed old new) where
@@ -65,3 +66,18 @@ entry_behind words fits object at lt is = behind (entry_spot words object at is)
     behind : IsEntrySpot words object at → 1028 + 64 * object ≤ at
     behind (own_entry entry few here) = omega (arith, here)
     behind (later_entry segment entry ready few here) = let far = segment_behind words fits object segment lt ready in omega (arith, far, here, lt)
+
+-- nor is it one of the first words of another
+pub entry_apart : (words : List ℕ) → Fits words → (object at other word : ℕ) → object < 16 → Contains (entry_places words object) at → other < 16 → word < 4 → at ≡ object_at other word → ⊥
+entry_apart words fits object at other word lt is less few same = apart (entry_spot words object at is)
+  where
+    apart : IsEntrySpot words object at → ⊥
+    apart (own_entry entry under here) = omega (arith, here, under, same, few)
+    apart (later_entry segment entry ready under here) = let far = segment_behind words fits object segment lt ready in omega (arith, far, here, same, less, few)
+
+pub entry_word : (words : List ℕ) (object at : ℕ) → object < 16 → Contains (entry_places words object) at → IsObjectWord words at
+entry_word words object at lt is = word (entry_spot words object at is)
+  where
+    word : IsEntrySpot words object at → IsObjectWord words at
+    word (own_entry entry few here) = of_own object (4 + entry) lt (omega (arith, few)) (λ two. omega (arith, two)) (λ three. omega (arith, three)) here
+    word (later_entry segment entry ready few here) = of_entry object segment (1 + entry) lt ready (omega arith) (omega (arith, few)) here

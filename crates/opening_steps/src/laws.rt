@@ -1,8 +1,15 @@
 // The laws of the steps of opening.
-ghost use Rattle.shown_state.specs.StepLaws.{LastKeeps};
+ghost use Rattle.shown_state.specs.StepLaws.{ClearsKeep, ClosesKeep, LastKeeps};
 
 /// A law for proofs: each cut of the storing of the last commit's number keeps what fits together, and shows the same;
 /// behind it the last number is that of the last commit.
 pub fn last_number_law()
     ensures { LastKeeps }
+{}
+
+/// A law for proofs: so does each cut of the closing of the object of a committed transaction, and of the clearing of
+/// the entries and the commit word of a closed one.
+pub fn objects_law()
+    ensures closes { ClosesKeep }
+    ensures clears { ClearsKeep }
 {}
