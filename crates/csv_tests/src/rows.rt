@@ -130,9 +130,15 @@ fn repeated(alloc: Global, character: char, times: usize) -> Result<String, NoMe
     Ok(text)
 }
 
-fn is_taken(alloc: Global, character: char, times: usize) -> Result<bool, NoMemory> {
+/// Whether a text of so many times the character is read as itself, or refused as a bad field.
+fn is_settled(alloc: Global, character: char, times: usize, taken: bool) -> Result<bool, NoMemory> {
     let text = repeated(alloc, character, times)?;
-    Ok(rows_of(alloc, "t", text.as_str().as_bytes()).is_ok())
+    let said = if taken {
+        format!(in alloc; "\"{}\" |", text.as_str())?
+    } else {
+        format!(in alloc; "field 1 1")?
+    };
+    is_read_as(alloc, "t", text.as_str().as_bytes(), said.as_str())
 }
 
 #[test]
@@ -143,7 +149,7 @@ fn texts_of_up_to_2000_bytes(rt: HostRuntime) -> Result<(), Fail> {
         ('\u{20ac}', 666, true),
         ('\u{20ac}', 667, false),
     ] {
-        assert_eq!(rt; is_taken(rt.alloc(), character, times)?, taken);
+        assert!(rt; is_settled(rt.alloc(), character, times, taken)?);
     }
     Ok(())
 }

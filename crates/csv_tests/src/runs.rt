@@ -119,7 +119,8 @@ fn words(alloc: Global, call: &Call) -> Result<String, NoMemory> {
     }
 }
 
-/// Whether the line is written so.
+/// Whether the line is written so. Its ordinal isn't written: that each line has the one behind its session's last is
+/// the law `statements_follow`.
 fn is_written(alloc: Global, line: &Line, said: &str) -> Result<bool, NoMemory> {
     match line {
         Line::Say { session, call, .. } => {

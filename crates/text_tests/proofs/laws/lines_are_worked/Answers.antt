@@ -1,0 +1,14 @@
+use Rattle.std.proofs.Common.{refl}
+use Rattle.text_tests.proofs.laws.lines_are_worked.Goals as goal
+
+pub statements : goal.statements
+statements c = record {
+  create = refl; begin = refl; insert = refl; get = refl; update = refl; delete = refl; commit = refl; abort = refl;
+  await = refl;
+}
+
+pub comparisons : goal.comparisons
+comparisons c = record {
+  scan = refl; count = refl; sum = refl; equal = refl; below = refl; at_most = refl; above = refl; at_least = refl;
+  between = refl; counted = refl; summed = refl;
+}
