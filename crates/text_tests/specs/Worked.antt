@@ -1,5 +1,5 @@
 -- Lines of a script without their session, worked out by hand: what each statement and each comparison is read as.
-use Rattle.std.specs.Prelude.{ℕ, pos, neg_ℤ, ◌≡◌, List, [], ◌∷◌, codes, None, Some, Result, Ok}
+use Rattle.std.specs.Prelude.{ℕ, pos, neg_ℤ, ◌≡◌, List, [], ◌∷◌, ◌++◌, codes, None, Some, Result, Err}
 use Rattle.mv_model.specs.declared.call.Call.{Call}
 use Rattle.mv_model.specs.declared.call.Call.TheVariants as call
 use Rattle.mv_model.specs.declared.call.Pred.{Pred}
@@ -7,19 +7,27 @@ use Rattle.mv_model.specs.declared.call.Test.{Test}
 use Rattle.mv_model.specs.declared.call.Test.TheVariants as test
 use Rattle.mv_model.specs.declared.shape.Kind.TheVariants as kind
 use Rattle.mv_model.specs.declared.value.Value.TheVariants.{Int, Text}
-use Rattle.script_text.specs.declared.statement.Statement.{Statement}
-use Rattle.script_text.specs.declared.statement.Statement.TheVariants.{Say, Await}
-use Rattle.script_text.specs.Rules.{want}
-use Rattle.script_text.specs.Statements.{statement_of}
+use Rattle.script_text.specs.declared.script.Line.{Line}
+use Rattle.script_text.specs.declared.script.Line.TheVariants as line
+use Rattle.script_text.specs.Rules.{then_try, want}
+use Rattle.script_text.specs.Script.{line_after}
+use Rattle.script_text.specs.Statements.{asked, statement_of}
 use Rattle.script_text.specs.Words.{words_of}
-
--- the statement of the line, or the first rule that it breaks
-abbrev pub said : List ℕ → Result Statement ℕ
-said line = want 2 (words_of line) statement_of
 
 -- the line asks the engine for this call
 abbrev pub Asks : List ℕ → Call → Type 0
-Asks line asked = said line ≡ Ok (Say asked)
+Asks bytes meant = want 2 (words_of bytes) statement_of ≡ asked meant
+
+-- the line in the mouth of session 1, behind these lines: the line it makes, or the first rule that it breaks
+abbrev pub said_behind : List Line → List ℕ → Result Line ℕ
+said_behind earlier bytes = then_try (want 2 (words_of bytes) statement_of) (line_after earlier 1)
+
+-- the first two statements of session 2, and the first three
+abbrev pub two_said : List Line
+two_said = line.Say 2 1 call.Begin ∷ line.Say 2 2 call.Abort ∷ []
+
+abbrev pub three_said : List Line
+three_said = two_said ++ line.Say 2 3 call.Begin ∷ []
 
 -- the rows in which the column `left` passes the test
 abbrev pub with_left : Test → Pred
@@ -33,7 +41,7 @@ scan_of_left passed = call.Scan (codes "stock") (Some (with_left passed))
 abbrev pub from_bolt : Pred
 from_bolt = record { column = codes "part"; test = test.AtLeast (Text (codes "bolt")) }
 
--- statements that change or read rows by their place, and those of one word
+-- statements that change or read rows by their place, those of one word, and an await, which is read and not built
 pub record StatementsAreWorked : Type 0 where
   pub create : Asks (codes "create stock part:text left:int")
       (call.Create (codes "stock")
@@ -47,7 +55,8 @@ pub record StatementsAreWorked : Type 0 where
   pub delete : Asks (codes "delete stock 12") (call.Delete (codes "stock") 12)
   pub commit : Asks (codes "commit") call.Commit
   pub abort : Asks (codes "abort") call.Abort
-  pub await : said (codes "await s2 3") ≡ Ok (Await 2 3)
+  pub await_later : said_behind two_said (codes "await s2 3") ≡ Err 11
+  pub await_earlier : said_behind three_said (codes "await s2 3") ≡ Err 0
 
 -- statements over all rows, or those that a comparison holds of
 pub record ComparisonsAreWorked : Type 0 where

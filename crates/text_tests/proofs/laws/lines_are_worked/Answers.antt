@@ -4,7 +4,7 @@ use Rattle.text_tests.proofs.laws.lines_are_worked.Goals as goal
 pub statements : goal.statements
 statements c = record {
   create = refl; begin = refl; insert = refl; get = refl; update = refl; delete = refl; commit = refl; abort = refl;
-  await = refl;
+  await_later = refl; await_earlier = refl;
 }
 
 pub comparisons : goal.comparisons
