@@ -100,7 +100,7 @@ impl Tree {
     }
 
     // The same, uncounted.
-    fn leaf<M: Memory>(&self, mem: &M, probe: &Probe) -> Option<Place>
+    pub(crate) fn leaf<M: Memory>(&self, mem: &M, probe: &Probe) -> Option<Place>
         requires stands { Stands (M.device mem.now).cached self.now }
         requires kind { kind_of probe.now ≡ self.now.inner.kind }
         ensures none { IfNone result (self.now.inner.leaves ≡ []) }
