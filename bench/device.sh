@@ -2,20 +2,20 @@
 # What an action of the device costs on 1 segment and on 128: instructions as callgrind counts them, and time.
 # The set-up is taken out by the difference of two runs. It wants rt on the path, and valgrind.
 set -euo pipefail
-cd "$(dirname "$0")/../crates/bench_device"
+cd "$(dirname "$0")/../crates/bench"
 
 actions_in_a_round=$((16 * 17))
 
 # instructions SEGMENTS ROUNDS
 instructions() {
-    valgrind --tool=callgrind --callgrind-out-file=/dev/null out/bench_device "$1" "$2" 2>&1 >/dev/null |
+    valgrind --tool=callgrind --callgrind-out-file=/dev/null out/bench device "$1" "$2" 2>&1 >/dev/null |
         sed -n 's/.*Collected : //p'
 }
 
 # milliseconds SEGMENTS ROUNDS: of the processor, as user
 milliseconds() {
     local TIMEFORMAT=%3U
-    { time out/bench_device "$1" "$2" >/dev/null; } 2>&1 | tr -d .,
+    { time out/bench device "$1" "$2" >/dev/null; } 2>&1 | tr -d .,
 }
 
 # per_action FEW MANY ROUNDS UNIT: the difference of two runs, by the actions of so many rounds
@@ -24,7 +24,7 @@ per_action() {
         'BEGIN { printf "%.2f", (many - few) * unit / actions }'
 }
 
-rt run -- 1 1 >/dev/null 2>&1
+rt run -- device 1 1 >/dev/null 2>&1
 for segments in 1 128; do
     few=$(instructions $segments 100)
     many=$(instructions $segments 1100)

@@ -4,23 +4,23 @@
 # inside of the function that takes the actions from a plan and plays them. Times are those of the processor, the least of
 # five runs. It wants rt on the path, and valgrind.
 set -euo pipefail
-cd "$(dirname "$0")/../crates/bench_heap"
+cd "$(dirname "$0")/../crates/bench"
 
 # instructions SEGMENTS ROUNDS WORK
 instructions() {
-    valgrind --tool=callgrind --callgrind-out-file=/dev/null out/bench_heap "$@" 2>&1 >/dev/null |
+    valgrind --tool=callgrind --callgrind-out-file=/dev/null out/bench heap "$@" 2>&1 >/dev/null |
         sed -n 's/.*Collected : //p'
 }
 
 # The same, inside of the function that plays a plan: SEGMENTS ROUNDS WORK
 playing() {
-    valgrind --tool=callgrind --callgrind-out-file=/dev/null --toggle-collect='*steps::play_whole*' out/bench_heap "$@" 2>&1 >/dev/null |
+    valgrind --tool=callgrind --callgrind-out-file=/dev/null --toggle-collect='*steps::play_whole*' out/bench heap "$@" 2>&1 >/dev/null |
         sed -n 's/.*Collected : //p'
 }
 
 # actions SEGMENTS ROUNDS WORK
 actions() {
-    out/bench_heap "$@" | sed 's/ actions.*//'
+    out/bench heap "$@" | sed 's/ actions.*//'
 }
 
 # Instructions of a round's planning, and those of its playing: SEGMENTS FEWER MORE WORK
@@ -35,11 +35,11 @@ round() {
 least() {
     local TIMEFORMAT='%3U %3S'
     for _ in 1 2 3 4 5; do
-        { time out/bench_heap "$@" >/dev/null; } 2>&1
+        { time out/bench heap "$@" >/dev/null; } 2>&1
     done | awk '{ spent = ($1 + $2) * 1000000; if (NR == 1 || spent < best) best = spent } END { printf "%.0f", best }'
 }
 
-rt run -- 1 1 mixed >/dev/null 2>&1
+rt run -- heap 1 1 mixed >/dev/null 2>&1
 fewer=$(instructions 32 1000 device)
 more=$(instructions 32 11000 device)
 action=$(awk -v spent=$((more - fewer)) 'BEGIN { printf "%.2f", spent / 160000 }')

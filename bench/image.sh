@@ -2,14 +2,14 @@
 # Times the writing and reading of image files against copying their bytes: for each case the least of
 # five runs with its rounds, less the least of five with none, divided by the rounds.
 cd "$(dirname "$0")/.." || exit 1
-(cd crates/bench_image && rt run -- 1 1 1 copy) >/dev/null 2>&1 || exit 1
+(cd crates/bench && rt run -- image 1 1 1 copy) >/dev/null 2>&1 || exit 1
 
 # The least time of five runs with these arguments, in microseconds.
 least() {
     best=
     for _ in 1 2 3 4 5; do
         start=$(date +%s%N)
-        crates/bench_image/out/bench_image "$@" >/dev/null || exit 1
+        crates/bench/out/bench image "$@" >/dev/null || exit 1
         spent=$((($(date +%s%N) - start) / 1000))
         if [ -z "$best" ] || [ "$spent" -lt "$best" ]; then best=$spent; fi
     done

@@ -1,0 +1,3 @@
+mod EvenIndex
+mod Played
+mod Turns

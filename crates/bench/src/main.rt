@@ -1,0 +1,128 @@
+//! Does one piece of work over and over, so that a clock outside can time it.
+//!
+//! Its first argument says what: `check`, `engine`, `device`, `heap`, `image` or `tree`. The others are the sizes that the
+//! module of this name reads. It prints what it found. With `all` alone it does a little of each.
+#![tactic(auto)]
+
+mod check;
+mod device;
+mod engine;
+mod filling;
+mod found;
+mod heap;
+mod image;
+mod pages;
+mod steps;
+mod tree;
+
+use crate::found::{Failed, Found};
+use std::alloc::Global;
+use std::{env, io};
+
+const USAGE: &str = "bench check SEGMENTS ROUNDS
+bench engine SEGMENTS INSERTS
+bench device SEGMENTS ROUNDS
+bench heap SEGMENTS ROUNDS mixed|turns|holes|device|reopen
+bench image SEGMENTS FILLED ROUNDS copy|encode|decode
+bench tree ROUNDS LEAVES mix|matches|prints|pairs|leaf
+bench all";
+
+// A measure with its sizes.
+#[derive(Clone, Copy)]
+enum Measure {
+    Check(check::Job),
+    Engine(engine::Job),
+    Device(device::Job),
+    Heap(heap::Job),
+    Image(image::Job),
+    Tree(tree::Job),
+}
+
+fn read_measure(words: &[String]) -> Option<Measure> {
+    match words.get(1)?.as_str() {
+        "check" => Some(Measure::Check(check::read(words)?)),
+        "engine" => Some(Measure::Engine(engine::read(words)?)),
+        "device" => Some(Measure::Device(device::read(words)?)),
+        "heap" => Some(Measure::Heap(heap::read(words)?)),
+        "image" => Some(Measure::Image(image::read(words)?)),
+        "tree" => Some(Measure::Tree(tree::read(words)?)),
+        _ => None,
+    }
+}
+
+// What the arguments ask for.
+#[derive(Clone, Copy)]
+enum Request {
+    All,
+    One(Measure),
+    Help,
+}
+
+fn read(words: &[String]) -> Request {
+    if let [_program, word] = words {
+        if word.as_str() == "all" {
+            return Request::All;
+        }
+    }
+    match read_measure(words) {
+        Some(measure) => Request::One(measure),
+        None => Request::Help,
+    }
+}
+
+fn run(alloc: Global, measure: Measure) -> Result<Found, Failed> {
+    match measure {
+        Measure::Check(job) => check::run(alloc, job),
+        Measure::Engine(job) => engine::run(alloc, job),
+        Measure::Device(job) => device::run(alloc, job),
+        Measure::Heap(job) => heap::run(alloc, job),
+        Measure::Image(job) => image::run(alloc, job),
+        Measure::Tree(job) => tree::run(alloc, job),
+    }
+}
+
+fn print_found(rt: &HostRuntime, found: Found) -> io::Result<()> {
+    match found {
+        Found::Sound { blocks, times } => println!(rt; "{blocks} live blocks, {times} times sound"),
+        Found::Stepped {
+            statements,
+            actions,
+            rows,
+        } => println!(rt; "{statements} statements, {actions} actions, {rows} rows"),
+        Found::Checksum(sum) => println!(rt; "checksum {sum}"),
+        Found::Played { actions, sum } => println!(rt; "{actions} actions, sum {sum}"),
+        Found::Sum(sum) => println!(rt; "sum {sum}"),
+    }
+}
+
+fn print_measure(rt: &HostRuntime, measure: Measure) -> io::Result<()> {
+    match run(rt.alloc(), measure) {
+        Ok(found) => print_found(rt, found),
+        Err(error) => println!(rt; "{error}"),
+    }
+}
+
+fn print_all(rt: &HostRuntime) -> io::Result<()> {
+    for measure in [
+        Measure::Check(check::small()),
+        Measure::Engine(engine::small()),
+        Measure::Device(device::small()),
+        Measure::Heap(heap::small()),
+        Measure::Image(image::small()),
+        Measure::Tree(tree::small()),
+    ] {
+        print_measure(rt, measure)?;
+    }
+    Ok(())
+}
+
+fn main(rt: HostRuntime) -> io::Result<()> {
+    let words: Vec<String> = env::args(&rt)?.collect(rt.alloc())?;
+    let request = read(words.as_slice());
+    drop(words);
+    match request {
+        Request::All => print_all(&rt),
+        Request::One(measure) => print_measure(&rt, measure),
+        Request::Help => println!(rt; "{USAGE}"),
+    }
+}

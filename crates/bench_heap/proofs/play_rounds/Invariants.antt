@@ -1,5 +1,0 @@
-use Rattle.bench_heap.specs.Uses.{IsAtRest}
-use Rattle.bench_heap.proofs.play_rounds.Given as goal
-
-abbrev pub invariant-loop : goal.invariant-loop
-invariant-loop g l = IsAtRest (g.M.Memory.device l.memory)

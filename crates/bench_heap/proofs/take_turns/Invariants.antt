@@ -1,5 +1,0 @@
-use Rattle.bench_heap.specs.Uses.{IsInUse}
-use Rattle.bench_heap.proofs.take_turns.Given as goal
-
-abbrev pub invariant-loop-round : goal.invariant-loop-round
-invariant-loop-round g l = IsInUse (g.M.Memory.device l.memory) l.heap
