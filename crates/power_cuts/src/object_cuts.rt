@@ -68,6 +68,47 @@ fn assert_undone<M: Memory>(rt: &impl Abort, memory: &M) {
     assert_zeros(rt, memory, 2_623..3_584);
 }
 
+// Plays so many of the extension's actions, and chooses the image of a power cut then.
+fn cut_extension<M: Memory>(
+    rt: &impl Abort,
+    alloc: Global,
+    memory: &mut M,
+    played: u32,
+    keep: Keep,
+) -> Result<Vec<u64>, NoMemory>
+    requires { HasEntries (M.device memory.old) 1 63 }
+{
+    let mut plan = extension(rt, alloc, memory)?;
+    play(rt, memory, 1, &mut plan, played);
+    drop(plan);
+    memory.choose(keep)
+}
+
+// The image that is left of an extension that is cut after so many of its actions.
+fn cut_image(
+    rt: &impl Abort,
+    alloc: Global,
+    behind: Behind,
+    played: u32,
+    keep: Keep,
+) -> Result<Vec<u64>, NoMemory> {
+    let mut memory = in_transaction(rt, alloc, behind)?;
+    let image = cut_extension(rt, alloc, &mut memory, played, keep);
+    drop(memory);
+    image
+}
+
+// Opens an image step by step, and gives how many segments are ready.
+fn ready_of<M: Memory>(rt: &impl Abort, alloc: Global, memory: &mut M) -> Result<u64, NoMemory> {
+    mend(rt, alloc, memory, Step::Lanes)?;
+    let ready = word(rt, memory, 1_026);
+    assert_entries(rt, memory, ready);
+    open(rt, alloc, memory)?;
+    assert_undone(rt, memory);
+    assert!(rt; word(rt, memory, 1_026) == ready);
+    Ok(ready)
+}
+
 // How many segments are ready once an extension that was cut after so many of its actions is opened.
 fn ready_after(
     rt: &impl Abort,
@@ -76,19 +117,12 @@ fn ready_after(
     played: u32,
     keep: Keep,
 ) -> Result<u64, NoMemory> {
-    let mut memory = in_transaction(rt, alloc, behind)?;
-    let mut plan = extension(rt, alloc, &memory)?;
-    play(rt, &mut memory, 1, &mut plan, played);
-    let image = memory.choose(keep)?;
-    assert_eq!(rt; image.len(), 32768);
+    let image = cut_image(rt, alloc, behind, played, keep)?;
+    assert!(rt; image.len() == 32768);
     let mut opened = Plain::new(alloc, image)?;
-    mend(rt, alloc, &mut opened, Step::Lanes)?;
-    let ready = word(rt, &opened, 1_026);
-    assert_entries(rt, &opened, ready);
-    open(rt, alloc, &mut opened)?;
-    assert_undone(rt, &opened);
-    assert_eq!(rt; word(rt, &opened, 1_026), ready);
-    Ok(ready)
+    let ready = ready_of(rt, alloc, &mut opened);
+    drop(opened);
+    ready
 }
 
 // Cuts an extension after each of its actions: the second segment is ready from the store on that says so, where all is

@@ -1,32 +1,30 @@
 //! An image with one table, and an open transaction of session 1 that created 63 rows of it, which fill its object and begin a
 //! segment.
-ghost use Rattle.std.specs.Prelude.{◌≡◌, ℕ, ◌+◌, ◌<◌, ◌≤◌, None, List, IfOk, length, slice_index};
+ghost use Rattle.std.specs.Prelude.{◌≡◌, ℕ, ◌+◌, ◌<◌, ◌≤◌, None, IfOk, length, slice_index};
 ghost use Rattle.image_layout.specs.Fixed.{lane_op_at, ready_at, first_segment_at};
 ghost use Rattle.image_layout.specs.Places.{place_in};
 ghost use Rattle.image_layout.specs.Checks.{first_fault};
 ghost use Rattle.pm_model.specs.Device.{IsClean};
 ghost use Rattle.pm_model.specs.Plain.{device_of};
-ghost use Rattle.pm_model.specs.Plans.{Part, IsPlan, finished, plan_of};
 ghost use Rattle.pmem_recover.specs.EntryRules.{entry_rules};
 ghost use Rattle.txn_object.specs.TestObject.{IsExtendable, HasEntries};
 
+use crate::opening::is_sound;
 use heap_palloc::{AllocError, Heap, plan_allocate, reopen};
-use img_check::check;
 use pm_model::{
-    ENTRY_SEGMENT_WORDS, Keep, Memory, NoMemory, PPtr, Place, Plain, Plan, fresh, lane_op,
-    ready_segments, segment_pointer,
+    ENTRY_SEGMENT_WORDS, Keep, Memory, NoMemory, PPtr, Place, Plain, Plan, lane_op, ready_segments,
+    segment_pointer,
 };
 use pmem_recover::check_entry;
 use std::alloc::Global;
 use std::ops::Range;
 use std::process::Abort;
-use txn_object::{
-    Entry, EntryKind, ExtendError, free_entries, plan_begin, plan_extend, push_entry,
-};
+use test_ground::{begin, changed_image, extend, play_whole};
+use txn_object::{Entry, EntryKind, free_entries, push_entry};
 
 // A table of one column of integers, without rows, on a formatted image of one segment: its block is the first slot of
 // page 4, and its arrays of creators, enders and codes are the pages 5 to 7.
-const TABLE: [(u32, u64); 18] = [
+const TABLE: [(usize, u64); 18] = [
     (4, 6),
     (5, 17),
     (6, 17),
@@ -47,24 +45,23 @@ const TABLE: [(u32, u64); 18] = [
     (2_105, 4_294_970_880),
 ];
 
-// The pages that two segments are allocated on.
-const FREE: Range<u32> = 4_096..5_120;
+// Makes words of an image other than 0, as words of pages that were used.
+pub(crate) fn use_words(words: &mut [u64], places: Range<u32>) {
+    for place in places {
+        if let Some(word) = words.get_mut(place as usize) {
+            *word = 9;
+        }
+    }
+}
 
-// The image of that table, with words in the free pages that aren't 0.
+// The image of that table, with words that aren't 0 in the free pages 8 and 9, on which two segments are allocated.
 fn table_image(rt: &impl Abort, alloc: Global) -> Result<Plain, NoMemory>
     ensures { IfOk result (λ memory. (w : ℕ) → IsClean (device_of memory) w) }
 {
-    let mut words = fresh(alloc, 1)?;
-    for (place, value) in TABLE {
-        assert!(rt; (place as usize) < words.len());
-        words[place as usize] = value;
-    }
-    for place in FREE {
-        assert!(rt; (place as usize) < words.len());
-        words[place as usize] = 9;
-    }
-    assert_eq!(rt; words.len(), 32768);
-    assert_eq!(rt; check(alloc, &words), Ok(()));
+    let mut words = changed_image(alloc, 1, &TABLE)?;
+    use_words(&mut words, 4_096..5_120);
+    assert!(rt; words.len() == 32768);
+    assert!(rt; is_sound(rt, alloc, &words));
     let memory = Plain::new(alloc, words)?;
     Ok(memory)
 }
@@ -97,28 +94,6 @@ fn heap_of<M: Memory>(rt: &impl Abort, alloc: Global, memory: &M) -> Result<Heap
         Ok(()) => idle_heap(rt, alloc, memory),
         Err(_) => panic!(rt; "the image breaks a rule"),
     }
-}
-
-// Plays all that is left of a plan.
-fn play_whole<M: Memory>(memory: &mut M, plan: &mut Plan)
-    requires clean { (w : ℕ) → IsClean (M.device memory.old) w }
-    requires planned { (parts : List Part) × (plan.old.left ≡ plan_of parts) × IsPlan (length (M.device memory.old).cached) parts }
-    ensures words { (parts : List Part) → plan.old.left ≡ plan_of parts → IsPlan (length (M.device memory.old).cached) parts →
-        (M.device memory.new).cached ≡ finished parts (M.device memory.old).cached }
-    ensures clean { (w : ℕ) → IsClean (M.device memory.new) w }
-{
-    let count = plan.len();
-    pm_model::play(memory, 1, plan, count);
-}
-
-// Extends the object by a segment.
-fn extend<M: Memory>(alloc: Global, memory: &mut M, heap: &mut Heap) -> Result<(), ExtendError>
-    requires { IsExtendable (M.device memory.old) heap.old }
-    ensures { IsExtendable (M.device memory.new) heap.new }
-{
-    let mut plan = plan_extend(alloc, memory, heap, 1)?;
-    play_whole(memory, &mut plan);
-    Ok(())
 }
 
 // The first word of an object's first segment, behind which the pointer to the next one stands.
@@ -155,7 +130,7 @@ fn own_next<M: Memory>(
         panic!(rt; "the object owns the next segment");
     }
     let (mut plan, _) = plan_allocate(alloc, memory, heap, 0, ENTRY_SEGMENT_WORDS, owner)?;
-    play_whole(memory, &mut plan);
+    play_whole(memory, 1, &mut plan);
     Ok(())
 }
 
@@ -182,16 +157,6 @@ fn put_behind<M: Memory>(
     }
 }
 
-// Plays the begin of session 1's transaction. The heap is that of the memory.
-fn begin<M: Memory>(alloc: Global, memory: &mut M, _heap: &Heap) -> Result<(), NoMemory>
-    requires { IsExtendable (M.device memory.old) _heap.now }
-    ensures { IfOk result (λ _. IsExtendable (M.device memory.new) _heap.now) }
-{
-    let mut plan = plan_begin(alloc, 1)?;
-    play_whole(memory, &mut plan);
-    Ok(())
-}
-
 // One segment is ready.
 fn check_ready<M: Memory>(rt: &impl Abort, memory: &M, _heap: &Heap)
     requires { IsExtendable (M.device memory.now) _heap.now }
@@ -215,7 +180,7 @@ fn enter<M: Memory>(alloc: Global, memory: &mut M, row: u32) -> Result<(), NoMem
     };
     let mut plan = Plan::with_room(alloc, 3)?;
     push_entry(&mut plan, memory, 1, row, entry);
-    play_whole(memory, &mut plan);
+    play_whole(memory, 1, &mut plan);
     Ok(())
 }
 
@@ -237,6 +202,22 @@ fn transaction<M: Memory>(
     Ok(())
 }
 
+// Extends the object by a segment, and begins the transaction and makes its entries.
+fn begin_on<M: Memory>(
+    rt: &impl Abort,
+    alloc: Global,
+    memory: &mut M,
+    behind: Behind,
+) -> Result<(), NoMemory>
+    requires { (w : ℕ) → IsClean (M.device memory.old) w }
+    ensures { IfOk result (λ _. HasEntries (M.device memory.new) 1 63) }
+{
+    let mut heap = heap_of(rt, alloc, memory)?;
+    assert!(rt; extend(alloc, memory, &mut heap).is_ok());
+    put_behind(rt, alloc, memory, &mut heap, behind);
+    transaction(rt, alloc, memory, &heap)
+}
+
 // The image in that transaction.
 pub(crate) fn in_transaction(
     rt: &impl Abort,
@@ -246,9 +227,6 @@ pub(crate) fn in_transaction(
     ensures { IfOk result (λ memory. HasEntries (device_of memory) 1 63) }
 {
     let mut memory = table_image(rt, alloc)?;
-    let mut heap = heap_of(rt, alloc, &memory)?;
-    assert!(rt; extend(alloc, &mut memory, &mut heap).is_ok());
-    put_behind(rt, alloc, &mut memory, &mut heap, behind);
-    transaction(rt, alloc, &mut memory, &heap)?;
+    begin_on(rt, alloc, &mut memory, behind)?;
     Ok(memory)
 }

@@ -95,6 +95,24 @@ fn next_plan<M: Memory>(
     }
 }
 
+// Plays the next plan of a step, and gives its number. `None` where the step is done.
+fn mend_next<M: Memory>(
+    rt: &impl Abort,
+    alloc: Global,
+    memory: &mut M,
+    step: Step,
+    from: u32,
+) -> Result<Option<u32>, NoMemory> {
+    match next_plan(rt, alloc, memory, step, from)? {
+        Some((number, mut plan)) => {
+            let count = plan.len();
+            play(rt, memory, 0, &mut plan, count);
+            Ok(Some(number))
+        }
+        None => Ok(None),
+    }
+}
+
 // Makes one step of opening.
 pub(crate) fn mend<M: Memory>(
     rt: &impl Abort,
@@ -104,11 +122,9 @@ pub(crate) fn mend<M: Memory>(
 ) -> Result<(), NoMemory> {
     let mut from = 0;
     for _ in 0..17 {
-        let Some((number, mut plan)) = next_plan(rt, alloc, memory, step, from)? else {
+        let Some(number) = mend_next(rt, alloc, memory, step, from)? else {
             return Ok(());
         };
-        let count = plan.len();
-        play(rt, memory, 0, &mut plan, count);
         assert!(rt; number < 16);
         from = number + 1;
     }
@@ -125,7 +141,12 @@ pub(crate) fn open<M: Memory>(
         mend(rt, alloc, memory, step)?;
     }
     let words = memory.choose(Keep::All)?;
-    assert_eq!(rt; words.len(), 32768);
-    assert_eq!(rt; check(alloc, &words), Ok(()));
+    assert!(rt; is_sound(rt, alloc, &words));
     Ok(())
+}
+
+// Whether the soundness check finds no fault in an image of one segment.
+pub(crate) fn is_sound(rt: &impl Abort, alloc: Global, words: &[u64]) -> bool {
+    assert!(rt; words.len() == 32768);
+    check(alloc, words).is_ok()
 }

@@ -5,6 +5,7 @@ ghost use Rattle.image_layout.specs.Fixed.{lane_op_at, ready_at, first_segment_a
 ghost use Rattle.image_layout.specs.Checks.{first_fault};
 ghost use Rattle.pmem_recover.specs.EntryRules.{entry_rules};
 
+use crate::objects::use_words;
 use crate::opening::{KEEPS, Step, mend, open, play};
 use arrayvec::ArrayVec;
 use heap_palloc::reopen;
@@ -98,11 +99,8 @@ enum Change {
 // A formatted image of one segment in which the words of the first slot of page 4 aren't 0.
 fn used(rt: &impl Abort, alloc: Global) -> Result<Plain, NoMemory> {
     let mut words = fresh(alloc, 1)?;
-    for place in SEGMENT {
-        assert!(rt; (place as usize) < words.len());
-        words[place as usize] = 9;
-    }
-    assert_eq!(rt; words.len(), 32768);
+    use_words(&mut words, SEGMENT);
+    assert!(rt; words.len() == 32768);
     Plain::new(alloc, words)
 }
 
@@ -116,6 +114,64 @@ fn assert_no_entries<M: Memory>(rt: &impl Abort, memory: &M) {
     }
 }
 
+// The plan of a change.
+fn plan_of<M: Memory>(
+    rt: &impl Abort,
+    alloc: Global,
+    memory: &M,
+    change: Change,
+) -> Result<Plan, NoMemory> {
+    match change {
+        Change::Extension => extension(rt, alloc, memory),
+        Change::Creation => creation(rt, alloc, memory),
+    }
+}
+
+// Plays so many of a change's actions, and chooses the image of a power cut then.
+fn cut_change<M: Memory>(
+    rt: &impl Abort,
+    alloc: Global,
+    memory: &mut M,
+    change: Change,
+    played: u32,
+    keep: Keep,
+) -> Result<Vec<u64>, NoMemory> {
+    let mut plan = plan_of(rt, alloc, memory, change)?;
+    play(rt, memory, 1, &mut plan, played);
+    drop(plan);
+    memory.choose(keep)
+}
+
+// The image that is left of a change that is cut after so many of its actions.
+fn cut_image(
+    rt: &impl Abort,
+    alloc: Global,
+    change: Change,
+    played: u32,
+    keep: Keep,
+) -> Result<Vec<u64>, NoMemory> {
+    let mut memory = used(rt, alloc)?;
+    let image = cut_change(rt, alloc, &mut memory, change, played, keep);
+    drop(memory);
+    image
+}
+
+// Opens an image step by step, and gives the word that says how often the change was made.
+fn made_of<M: Memory>(
+    rt: &impl Abort,
+    alloc: Global,
+    memory: &mut M,
+    change: Change,
+) -> Result<u64, NoMemory> {
+    mend(rt, alloc, memory, Step::Lanes)?;
+    assert_no_entries(rt, memory);
+    open(rt, alloc, memory)?;
+    match change {
+        Change::Extension => Ok(memory.load(ready_segments(0))),
+        Change::Creation => Ok(memory.load(table_count())),
+    }
+}
+
 // The word that says how often the change was made, on an opened image of the change, cut after so many of its actions.
 fn made_after(
     rt: &impl Abort,
@@ -124,20 +180,12 @@ fn made_after(
     played: u32,
     keep: Keep,
 ) -> Result<u64, NoMemory> {
-    let mut memory = used(rt, alloc)?;
-    let (mut plan, counted) = match change {
-        Change::Extension => (extension(rt, alloc, &memory)?, ready_segments(0)),
-        Change::Creation => (creation(rt, alloc, &memory)?, table_count()),
-    };
-    play(rt, &mut memory, 1, &mut plan, played);
-    let image = memory.choose(keep)?;
-    assert_eq!(rt; image.len(), 32768);
+    let image = cut_image(rt, alloc, change, played, keep)?;
+    assert!(rt; image.len() == 32768);
     let mut opened = Plain::new(alloc, image)?;
-    mend(rt, alloc, &mut opened, Step::Lanes)?;
-    assert_no_entries(rt, &opened);
-    open(rt, alloc, &mut opened)?;
-    assert!(rt; counted.0 < opened.len());
-    Ok(opened.load(counted))
+    let made = made_of(rt, alloc, &mut opened, change);
+    drop(opened);
+    made
 }
 
 // Cuts a change after each of its actions: it is made from the store on that publishes it, where all is kept, and from its
