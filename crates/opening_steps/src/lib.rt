@@ -1,10 +1,16 @@
-//! What each step of opening keeps of a whole image, whatever a power cut leaves of it.
+//! What the steps of opening keep of a whole image, whatever a power cut leaves of it.
 //!
-//! - `proofs/Structure` has the words that say where structures stand: all that is read, but for the words of
-//!   transactions.
-//! - `proofs/Idle` and `proofs/Fitting` have what goes on where these are the same, whatever becomes of the words of
-//!   transactions, once lanes, logs and slots are mended.
-//! - `proofs/Closer` has what the steps of transaction objects have in common.
+//! Layer: what an image shows, and how it opens, above `shown_state`, whose `StepKeeps` says what a step has to keep. No
+//! other crate stands on it yet.
+//!
+//! State: none. The laws are of the words of an image that fits together (`Fits`).
+//!
+//! Invariants, of each cut of a step and of its end:
+//! 1. the image still fits together, and shows the same state;
+//! 2. at the end, what the step mends is mended.
+//!
+//! Calls, in the order of the steps: `last_number_law` (the last commit number), `objects_law` (closing and clearing of
+//! transaction objects). The other steps have no law yet.
 #![tactic(auto)]
 
 mod laws;
