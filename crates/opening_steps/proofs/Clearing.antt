@@ -19,9 +19,9 @@ use Rattle.shown_state.specs.OpeningParts.{FitsStill, IsImage}
 use Rattle.shown_state.specs.StepLaws.{AreClear, ClearsKeep}
 use Rattle.shown_state.proofs.ReadsStand.{reads_keep_off}
 use Rattle.opening_steps.proofs.Closer.{closer_fits, IsCloser, last_same, undecided_same}
-use Rattle.opening_steps.proofs.Idle.{MayChange, places}
+use Rattle.opening_steps.proofs.Idle.{KeepsStamps, MayChange, places}
 use Rattle.opening_steps.proofs.NoneNew.{entry_apart, entry_behind, entry_word, none_new}
-use Rattle.opening_steps.proofs.ObjectWords.{IsObjectWord, objects_may_change, of_own}
+use Rattle.opening_steps.proofs.ObjectWords.{IsObjectWord, objects_keep_stamps, objects_may_change, objects_only, of_own}
 use Rattle.opening_steps.proofs.Objects.{entry_places_same}
 use Rattle.opening_steps.proofs.Steps.{step_by}
 
@@ -59,6 +59,9 @@ module _ (words : List ℕ) (object : ℕ) (image : IsImage words) (number : obj
   may : MayChange words (IsObjectWord words)
   may = objects_may_change words fits has.0.0.0
 
+  stamps : KeepsStamps words (IsObjectWord words)
+  stamps = objects_keep_stamps words fits has.0.0.0
+
   own : (place : ℕ) → Contains spots place ⊎ (place ≡ commit_word_at object) → IsObjectWord words place
   own place which = ⊎_elim (λ entry. entry_word words object place number entry)
       (λ commit. of_own object 1 number (omega arith) (λ two. omega (arith, two)) (λ three. omega (arith, three)) commit) which
@@ -92,9 +95,9 @@ module _ (words : List ℕ) (object : ℕ) (image : IsImage words) (number : obj
         let shut = has.0.1 one lt in
         omega (arith, state, same, shut)
 
-    closer : IsCloser words cut
+    closer : IsCloser (IsObjectWord words) words cut
     closer = record {
-      only = record { size = between.size; each = λ w. ⊎_elim (λ e. inl e) (λ cleared. inr (own w cleared.which)) (word_of_cut w) };
+      only = objects_only words fits has.0.0.0 cut between.size (λ w. ⊎_elim (λ e. inl e) (λ cleared. inr (own w cleared.which)) (word_of_cut w));
       last = other last_at low (λ e. omega (arith, e)) ∙ has.0.0.1;
       states = λ one lt. inl (state_other one lt);
       commits = λ one lt. ⊎_elim (λ e. inl e) (λ cleared. inr cleared.none) (word_of_cut (commit_word_at one));
@@ -106,7 +109,7 @@ module _ (words : List ℕ) (object : ℕ) (image : IsImage words) (number : obj
         low is = let behind = entry_behind words fits object last_at number is in omega (arith, behind)
 
     pub still : FitsStill words cut
-    still = closer_fits words cut image fits has.0.0.0 closer
+    still = closer_fits words cut (IsObjectWord words) image fits has.0.0.0 may stamps closer
 
   abbrev cleared_words : List ℕ
   cleared_words = words_after part words
@@ -138,8 +141,8 @@ module _ (words : List ℕ) (object : ℕ) (image : IsImage words) (number : obj
         (
           (
             none_new words cleared_words (IsObjectWord words) image fits has.0.0.0 may now.only,
-            now.last ∙ sym (last_same words cleared_words image fits has.0.0.0 now),
-            λ one lt. undecided_same words cleared_words image fits has.0.0.0 now one lt ∙ has.0.0.2 one lt,
+            now.last ∙ sym (last_same words cleared_words (IsObjectWord words) image fits has.0.0.0 may stamps now),
+            λ one lt. undecided_same words cleared_words (IsObjectWord words) image fits has.0.0.0 may stamps now one lt ∙ has.0.0.2 one lt,
           ),
           λ one lt. state_other cleared_words at_end one lt ∙ has.0.1 one lt,
         ),

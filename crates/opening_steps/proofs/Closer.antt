@@ -24,8 +24,7 @@ use Rattle.shown_state.specs.StepLaws.{HaveNoNew}
 use Rattle.shown_state.proofs.Alike.{filter_below, map_alike}
 use Rattle.shown_state.proofs.SameTables.{created_is, ended_is, IsHeader}
 use Rattle.opening_steps.proofs.Fitting.{still_fits, TransactionsFit}
-use Rattle.opening_steps.proofs.Idle.{ChangesOnly, MayChange, places}
-use Rattle.opening_steps.proofs.ObjectWords.{block_apart, chunk_apart, IsObjectWord, objects_may_change}
+use Rattle.opening_steps.proofs.Idle.{ChangesOnly, KeepsStamps, MayChange, places}
 use Rattle.opening_steps.proofs.Objects.{entry_places_same}
 use Rattle.opening_steps.proofs.ReadRules.{objects_kept}
 use Rattle.opening_steps.proofs.Rows.{RowsAlike, rows_same}
@@ -53,8 +52,8 @@ fold_max-most a n (x ∷ xs) le each = let here = each x (Contains-here x xs) in
 
 -- An object is as it was, or closed; an open one has its commit word and its entries still; and one that is undecided is open
 -- still. A commit word is the one that it was, or none.
-pub record IsCloser (old new : List ℕ) : Type 0 where
-  pub only : ChangesOnly (IsObjectWord old) old new
+pub record IsCloser (changed : ℕ → Type 0) (old new : List ℕ) : Type 0 where
+  pub only : ChangesOnly changed old new
   pub last : get_or new last_at 0 ≡ last_commit old
   pub states : (object : ℕ) → object < 16 → (get_or new (state_at object) 0 ≡ get_or old (state_at object) 0) ⊎ (get_or new (state_at object) 0 ≡ 0)
   pub commits : (object : ℕ) → object < 16 → (commit_word new object ≡ commit_word old object) ⊎ (commit_word new object ≡ 0)
@@ -108,12 +107,10 @@ last_least words = fold_max-from (get_or words last_at 0) (map (open_commit word
 pub open_least : (words : List ℕ) (object : ℕ) → object < 16 → open_commit words object ≤ last_commit words
 open_least words object lt = fold_max-each (get_or words last_at 0) (map (open_commit words) (below 16)) (open_commit words object) (map-Contains (open_commit words) (below 16) object (below-Contains 16 object lt))
 
-module _ (old new : List ℕ) (image : IsImage old) (fits : Fits old) (clear : HaveNoNew 512 old) (closer : IsCloser old new) where
-  may : MayChange old (IsObjectWord old)
-  may = objects_may_change old fits clear
-
+module _ (old new : List ℕ) (changed : ℕ → Type 0) (image : IsImage old) (fits : Fits old) (clear : HaveNoNew 512 old)
+    (may : MayChange old changed) (stamps : KeepsStamps old changed) (closer : IsCloser changed old new) where
   same : SamePlaces old new
-  same = places old new (IsObjectWord old) image fits clear may closer.only
+  same = places old new changed image fits clear may closer.only
 
   -- ── the last commit ──
 
@@ -139,15 +136,15 @@ module _ (old new : List ℕ) (image : IsImage old) (fits : Fits old) (clear : H
 
   -- ── stamps and bounds ──
 
-  kept : (w : ℕ) → (IsObjectWord old w → ⊥) → get_or new w 0 ≡ get_or old w 0
+  kept : (w : ℕ) → (changed w → ⊥) → get_or new w 0 ≡ get_or old w 0
   kept w none = let only = closer.only in ⊎_elim (λ e. e) (λ hit. absurd (none hit)) (only.each w)
 
   stamp_same : (header row : ℕ) → IsHeader old header → row < capacity old header → array_word new header row ≡ array_word old header row
   stamp_same header row is lt =
-      ap (λ (place : ℕ). get_or new place 0) (place_same old new same fits.entry.arrays header row is lt) ∙ kept (place_of old header row) (chunk_apart old fits clear header row is lt)
+      ap (λ (place : ℕ). get_or new place 0) (place_same old new same fits.entry.arrays header row is lt) ∙ kept (place_of old header row) (stamps.chunk header row is lt)
 
   high_same : (table : ℕ) → table < table_count old → get_or new (high_at (table_block new table)) 0 ≡ get_or old (high_at (table_block old table)) 0
-  high_same table lt = ap (λ (block : ℕ). get_or new (high_at block) 0) (block_same old new same table lt) ∙ kept (table_block old table + 1) (block_apart old fits clear table 1 lt (omega arith))
+  high_same table lt = ap (λ (block : ℕ). get_or new (high_at block) 0) (block_same old new same table lt) ∙ kept (high_at (table_block old table)) (stamps.bound table lt)
 
   -- ── rows that were given out ──
 
@@ -282,7 +279,7 @@ module _ (old new : List ℕ) (image : IsImage old) (fits : Fits old) (clear : H
 
   pub closer_fits : FitsStill old new
   closer_fits = record {
-    fits = still_fits old new (IsObjectWord old) image fits clear may closer.only transactions;
+    fits = still_fits old new changed image fits clear may closer.only transactions;
     shows = state_same old new same fits.entry.arrays fits.codes alike fits.rows;
   }
     where

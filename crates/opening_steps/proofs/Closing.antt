@@ -12,8 +12,9 @@ use Rattle.shown_state.specs.Mending.{close_mending}
 use Rattle.shown_state.specs.OpeningParts.{FitsStill, IsImage}
 use Rattle.shown_state.specs.StepLaws.{AreClosed, ClosesKeep}
 use Rattle.opening_steps.proofs.Closer.{closer_fits, IsCloser, last_same, state_low, undecided_same}
+use Rattle.opening_steps.proofs.Idle.{KeepsStamps, MayChange}
 use Rattle.opening_steps.proofs.NoneNew.{entry_apart, none_new}
-use Rattle.opening_steps.proofs.ObjectWords.{objects_may_change, of_own}
+use Rattle.opening_steps.proofs.ObjectWords.{IsObjectWord, objects_keep_stamps, objects_may_change, objects_only, of_own}
 use Rattle.opening_steps.proofs.Steps.{step_by}
 
 module _ (words : List ℕ) (object : ℕ) (image : IsImage words) (number : object < 16) (fits : Fits words) (has : AreClosed object words) where
@@ -45,12 +46,10 @@ module _ (words : List ℕ) (object : ℕ) (image : IsImage words) (number : obj
   none_undecided : (one : ℕ) → one < 16 → is_undecided words one ≡ true → ⊥
   none_undecided one lt is = both_ways (is_undecided words one) (has.0.2 one lt) is
 
-  closer : IsCloser words stored
+  closer : IsCloser (IsObjectWord words) words stored
   closer = record {
-    only = record {
-      size = length-set words at 0;
-      each = λ w. ⊎_elim (λ e. inr (of_own object 0 number (omega arith) (λ two. omega (arith, two)) (λ three. omega (arith, three)) e)) (λ apart. inl (other w apart)) (cases_eq w at);
-    };
+    only = objects_only words fits has.0.0 stored (length-set words at 0)
+        (λ w. ⊎_elim (λ e. inr (of_own object 0 number (omega arith) (λ two. omega (arith, two)) (λ three. omega (arith, three)) e)) (λ apart. inl (other w apart)) (cases_eq w at));
     last = other last_at (λ e. omega (arith, e)) ∙ has.0.1;
     states = λ one lt. ⊎_elim (λ (e : one ≡ object). inr (ap (λ (o : ℕ). get_or stored (state_at o) 0) e ∙ here)) (λ apart. inl (state_other one apart)) (cases_eq one object);
     commits = λ one lt. inl (other (commit_word_at one) (λ e. omega (arith, e)));
@@ -62,15 +61,21 @@ module _ (words : List ℕ) (object : ℕ) (image : IsImage words) (number : obj
     undecided = λ one lt is. absurd (none_undecided one lt is);
   }
 
+  may : MayChange words (IsObjectWord words)
+  may = objects_may_change words fits has.0.0
+
+  stamps : KeepsStamps words (IsObjectWord words)
+  stamps = objects_keep_stamps words fits has.0.0
+
   still : FitsStill words stored
-  still = closer_fits words stored image fits has.0.0 closer
+  still = closer_fits words stored (IsObjectWord words) image fits has.0.0 may stamps closer
 
   closed : AreClosed (object + 1) stored
   closed = (
     (
-      none_new words stored _ image fits has.0.0 (objects_may_change words fits has.0.0) closer.only,
-      closer.last ∙ sym (last_same words stored image fits has.0.0 closer),
-      λ one lt. undecided_same words stored image fits has.0.0 closer one lt ∙ has.0.2 one lt,
+      none_new words stored (IsObjectWord words) image fits has.0.0 may closer.only,
+      closer.last ∙ sym (last_same words stored (IsObjectWord words) image fits has.0.0 may stamps closer),
+      λ one lt. undecided_same words stored (IsObjectWord words) image fits has.0.0 may stamps closer one lt ∙ has.0.2 one lt,
     ),
     λ one lt. ⊎_elim (λ (e : one ≡ object). ap (λ (o : ℕ). get_or stored (state_at o) 0) e ∙ here)
         (λ apart. state_other one apart ∙ has.1 one (omega (arith, lt, apart))) (cases_eq one object),

@@ -1,6 +1,7 @@
 -- What is left to show of an image in which words of transactions changed: its rules of objects, and the rows of its tables.
 use Rattle.std.proofs.Common.{◌≡◌, ℕ, ◌+◌, ◌<◌, true, List, get_or, refl, sym, ◌∙◌, ap, subst, arith}
 use Rattle.std.specs.Prelude.{All, Contains}
+use Rattle.std.proofs.lemmas.Bool.{both_ways}
 use Rattle.std.proofs.lemmas.List.Elements.{All-contains}
 use Rattle.image_layout.specs.Places.{below}
 use Rattle.image_layout.specs.Records.{first_extension_at}
@@ -19,18 +20,20 @@ use Rattle.opening_steps.proofs.Idle.{ChangesOnly, heap_rules, held, given_kept,
 use Rattle.opening_steps.proofs.ReadRules.{arrays_rule_same}
 use Rattle.opening_steps.proofs.Slots.{slots_kept}
 use Rattle.opening_steps.proofs.Structure.{of_table, same_prints, SamePlaces, same_tree}
-use Rattle.opening_steps.proofs.Tables.{block_same, columns_same, count_same, first_version_same, since_same}
+use Rattle.opening_steps.proofs.Tables.{block_same, columns_same, count_same, since_same}
 use Rattle.opening_steps.proofs.TreeRules.{code_rule_same, fingerprint_rule_same, order_rule_same, text_key_rule_same, text_rule_same, tree_rule_same}
-use Rattle.opening_steps.proofs.ValueRules.{distinct_names_same, magic_same, names_same, table_count_same, version_same}
+use Rattle.opening_steps.proofs.ValueRules.{distinct_names_same, magic_same, names_kept, table_count_same, version_kept}
+use Rattle.opening_steps.proofs.Versions.{VersionGoesOn, raised, same_version, second_is, version_is}
 
 -- a rule with the same checks is kept
 pub kept_by : (old new : List ℕ) (rule : Rule) → rule new ≡ rule old → Keeps old rule → Keeps new rule
 kept_by old new rule same keeps = record { checks = subst (λ (checks : List Check). All Holds checks) (sym same) keeps.checks }
 
 -- in version 1 nothing is read beside it
-begins_first : (old new : List ℕ) → Fits old → SamePlaces old new → is_first_version new ≡ true → (table : ℕ) → table < table_count old → BeginsFirst new table
-begins_first old new fits same version table lt =
-    let was = fits.first (sym (first_version_same old new same) ∙ version) table lt in
+begins_first : (old new : List ℕ) → Fits old → SamePlaces old new → VersionGoesOn old new → is_first_version new ≡ true → (table : ℕ) → table < table_count old → BeginsFirst new table
+begins_first old new fits same (raised one two) version table lt = absurd (both_ways (is_first_version new) (second_is new two) version)
+begins_first old new fits same (same_version is) version table lt =
+    let was = fits.first (sym (version_is old new is) ∙ version) table lt in
     let place = block_same old new same table lt in
     let columns : columns_of new (table_block new table) ≡ columns_of old (table_block old table) = ap (columns_of new) place ∙ columns_same old new same table lt in
     record {
@@ -62,17 +65,17 @@ still_fits old new changed image fits clear may only said =
     record {
       entry = record {
         magic = kept_by old new _ (magic_same old new same) fits.entry.magic;
-        version = kept_by old new _ (version_same old new same) fits.entry.version;
+        version = version_kept old new same only.version fits.entry.version;
         last = said.last;
         table_count = kept_by old new _ (table_count_same old new same) fits.entry.table_count;
         reserved = heap.reserved;
         descriptors = heap.descriptors;
         bitmaps = heap.bitmaps;
         lanes = lanes_kept old new changed image fits clear may only;
-        table_slots = slots_kept old new same (few_tables old fits.entry.table_count) fits.entry.table_slots (slots_null old new changed image fits clear may only);
+        table_slots = slots_kept old new same only.version fits.first (few_tables old fits.entry.table_count) fits.entry.table_slots (slots_null old new changed image fits clear may only);
         arrays = kept_by old new _ (arrays_rule_same old new same) arrays;
         trees = kept_by old new _ (tree_rule_same old new same tree trees) trees;
-        names = kept_by old new _ (names_same old new same) fits.entry.names;
+        names = names_kept old new same only.version fits.first fits.entry.names;
         text_keys = kept_by old new _ (text_key_rule_same old new same tree trees arrays fits.codes) fits.entry.text_keys;
         objects = said.objects;
         entries = said.entries;
@@ -89,5 +92,5 @@ still_fits old new changed image fits clear may only said =
       given_back = given_kept old new changed image fits clear may only;
       names = kept_by old new _ (distinct_names_same old new same) fits.names;
       rows = λ table lt. said.rows table (omega (arith, lt, count));
-      first = λ version table lt. begins_first old new fits same version table (omega (arith, lt, count));
+      first = λ version table lt. begins_first old new fits same only.version version table (omega (arith, lt, count));
     }

@@ -10,7 +10,7 @@ use Rattle.std.proofs.lemmas.List.FromFn.{length-range_with_len, get_or-range_wi
 use Rattle.image_layout.specs.Fixed.{descriptor_at, lane_op_at, table_slot_at}
 use Rattle.image_layout.specs.Pointer.{pointer_word}
 use Rattle.image_layout.specs.Places.{below, is_pointer, page_at, page_count, page_of, place_in}
-use Rattle.image_layout.specs.Records.{dictionary_header, first_leaf_at, new_leaf_at, next_leaf_at, split_leaf_at}
+use Rattle.image_layout.specs.Records.{dictionary_header, first_leaf_at, high_at, new_leaf_at, next_leaf_at, split_leaf_at}
 use Rattle.image_layout.specs.Arrays.{capacity, place_of}
 use Rattle.image_layout.specs.Trees.{dictionary_length, is_about_to_link}
 use Rattle.image_layout.specs.EntryRules.{is_table_pointer, is_table_slot, table_slot_checks, table_slot_rule, text_columns}
@@ -18,7 +18,7 @@ use Rattle.image_layout.specs.Blocks.{Block, descriptor_of, is_free_page, is_giv
 use Rattle.image_layout.specs.Checks.{check, Keeps}
 use Rattle.image_layout.specs.HeapRules.{lane_rule, is_lane}
 use Rattle.image_layout.specs.SoundRules.{given_back_rule, owner_rule, zero_check}
-use Rattle.image_layout.specs.Tables.{all_columns, is_text, table_count}
+use Rattle.image_layout.specs.Tables.{all_columns, inner_columns, is_text, table_block, table_count}
 use Rattle.image_layout.specs.Owners.{Owner, busy_lanes, firm_owners, lane_owner, lane_targets, leaf_owner, is_replaced, is_replaced_in, lane_block, names_one, NameApart, next_table_slots, next_text_slots, new_leaf_owners, owner_places, owner_words, owns_block, OwnersAreApart, unfinished_slots, word_of}
 use Rattle.image_layout.proofs.Faults.{Holds, mapped_hold}
 use Rattle.image_layout.proofs.Members.{below-Contains, Contains-below, Contains-filter, Contains-flat_map, Contains-here, Contains-map, Contains-nil, flat_map-Contains}
@@ -35,7 +35,7 @@ use Rattle.shown_state.proofs.Alike.{any_members, filter_below, flat_map_alike, 
 use Rattle.shown_state.proofs.Ends.{all_few, none_filtered}
 use Rattle.shown_state.proofs.ReadsStand.{reads_keep_off}
 use Rattle.shown_state.proofs.SameLeaves.{values_same}
-use Rattle.shown_state.proofs.SameTables.{dictionary_is}
+use Rattle.shown_state.proofs.SameTables.{dictionary_is, IsHeader}
 use Rattle.shown_state.proofs.SameTreeRules.{pointer_is_same}
 use Rattle.shown_state.proofs.UnfinishedUnread.{unfinished_are_unread}
 use Rattle.opening_steps.proofs.OwnerPlaces.{owner_place}
@@ -43,6 +43,7 @@ use Rattle.opening_steps.proofs.Structure.{IsPlace, SamePlaces, of_column, same_
 use Rattle.opening_steps.proofs.TreeRules.{text_columns_same}
 use Rattle.opening_steps.proofs.Tables.{all_columns_same, capacity_same, place_same}
 use Rattle.opening_steps.proofs.Owners.{owner_words_same, unfinished_same, firm_owners_same, owner_places_same}
+use Rattle.opening_steps.proofs.Versions.{VersionGoesOn}
 
 -- The words at these places may change: structures read them, but none of them says where a structure stands, and none is a table
 -- slot.
@@ -52,10 +53,17 @@ pub record MayChange (words : List ℕ) (changed : ℕ → Type 0) : Type 0 wher
   pub no_slot : (w : ℕ) → changed w → 520 ≤ w → w < 552 → ⊥
   pub no_key : (column code : ℕ) → Contains (all_columns words) column → code < capacity words (dictionary_header column) → changed (place_of words (dictionary_header column) code) → ⊥
 
--- only they do
+-- none of them is a stamp, or the bound of a table
+pub record KeepsStamps (words : List ℕ) (changed : ℕ → Type 0) : Type 0 where
+  pub chunk : (header index : ℕ) → IsHeader words header → index < capacity words header → changed (place_of words header index) → ⊥
+  pub bound : (table : ℕ) → table < table_count words → changed (high_at (table_block words table)) → ⊥
+
+-- only they do, as many columns stand in each table's block, and the version goes on
 pub record ChangesOnly (changed : ℕ → Type 0) (old new : List ℕ) : Type 0 where
   pub size : length new ≡ length old
   pub each : (w : ℕ) → (get_or new w 0 ≡ get_or old w 0) ⊎ changed w
+  pub inner : (table : ℕ) → table < table_count old → inner_columns new (table_block old table) ≡ inner_columns old (table_block old table)
+  pub version : VersionGoesOn old new
 
 module _ (old : List ℕ) (fits : Fits old) (clear : HaveNoNew 512 old) where
   pub lane_idle : (lane : ℕ) → lane < 16 → get_or old (lane_op_at lane) 0 ≡ 0
@@ -96,7 +104,11 @@ null_behind old keeps table above lt =
 
 module _ (old new : List ℕ) (changed : ℕ → Type 0) (image : IsImage old) (fits : Fits old) (clear : HaveNoNew 512 old) (may : MayChange old changed) (only : ChangesOnly changed old new) where
   pub places : SamePlaces old new
-  places = record { size = only.size; each = λ w place. ⊎_elim (λ (e : get_or new w 0 ≡ get_or old w 0). e) (λ hit. absurd (may.no_place w place hit)) (only.each w) }
+  places = record {
+    size = only.size;
+    each = λ w place. ⊎_elim (λ (e : get_or new w 0 ≡ get_or old w 0). e) (λ hit. absurd (may.no_place w place hit)) (only.each w);
+    inner = only.inner;
+  }
 
   kept : (w : ℕ) → (changed w → ⊥) → get_or new w 0 ≡ get_or old w 0
   kept w none = ⊎_elim (λ e. e) (λ hit. absurd (none hit)) (only.each w)
@@ -149,16 +161,16 @@ module _ (old new : List ℕ) (changed : ℕ → Type 0) (image : IsImage old) (
   columns_same = all_columns_same old new places
 
   pub owners_same : owner_words new ≡ owner_words old
-  owners_same = owner_words_same old new places fits.entry.arrays fits.entry.trees fits.codes
+  owners_same = owner_words_same old new places only.version fits.first fits.entry.arrays fits.entry.trees fits.codes
 
   firm_same : firm_owners new ≡ firm_owners old
-  firm_same = firm_owners_same old new places fits.entry.arrays fits.entry.trees fits.codes
+  firm_same = firm_owners_same old new places only.version fits.first fits.entry.arrays fits.entry.trees fits.codes
 
   pub slots_same : unfinished_slots new ≡ unfinished_slots old
-  slots_same = unfinished_same old new places fits.entry.arrays fits.entry.trees fits.codes
+  slots_same = unfinished_same old new places only.version fits.first fits.entry.arrays fits.entry.trees fits.codes
 
   spots_same : owner_places new ≡ owner_places old
-  spots_same = owner_places_same old new places fits.entry.arrays fits.entry.trees fits.codes
+  spots_same = owner_places_same old new places only.version fits.first fits.entry.arrays fits.entry.trees fits.codes
 
   pub slot_kept : (at : ℕ) → Contains (unfinished_slots old) at → get_or new at 0 ≡ get_or old at 0
   slot_kept at is = kept at (λ hit. unfinished_are_unread old fits at is (may.read at hit))

@@ -12,8 +12,9 @@ use Rattle.shown_state.specs.Mending.{last_mending}
 use Rattle.shown_state.specs.OpeningParts.{FitsStill, IsImage}
 use Rattle.shown_state.specs.StepLaws.{AreUndone, HaveNoNew, LastKeeps}
 use Rattle.opening_steps.proofs.Closer.{closer_fits, IsCloser, last_same}
+use Rattle.opening_steps.proofs.Idle.{KeepsStamps, MayChange}
 use Rattle.opening_steps.proofs.NoneNew.{entry_behind, none_new}
-use Rattle.opening_steps.proofs.ObjectWords.{objects_may_change, the_last}
+use Rattle.opening_steps.proofs.ObjectWords.{IsObjectWord, objects_keep_stamps, objects_may_change, objects_only, the_last}
 
 module _ (words : List ℕ) (image : IsImage words) (fits : Fits words) (clear : HaveNoNew 512 words) where
   abbrev number : ℕ
@@ -37,12 +38,10 @@ module _ (words : List ℕ) (image : IsImage words) (fits : Fits words) (clear :
   open_other : (object : ℕ) → is_open stored object ≡ is_open words object
   open_other object = ap (λ (state : ℕ). eqb state 1) (state_other object)
 
-  closer : IsCloser words stored
+  closer : IsCloser (IsObjectWord words) words stored
   closer = record {
-    only = record {
-      size = length-set words last_at number;
-      each = λ w. ⊎_elim (λ here. inr (the_last here)) (λ apart. inl (other w apart)) (cases_eq w last_at);
-    };
+    only = objects_only words fits clear stored (length-set words last_at number)
+        (λ w. ⊎_elim (λ here. inr (the_last here)) (λ apart. inl (other w apart)) (cases_eq w last_at));
     last = get_or-set_same words last_at number 0 inside;
     states = λ object lt. inl (state_other object);
     commits = λ object lt. inl (commit_other object);
@@ -54,16 +53,22 @@ module _ (words : List ℕ) (image : IsImage words) (fits : Fits words) (clear :
     undecided = λ object lt is. open_other object ∙ (and_parts (is_open words object) (eqb (commit_word words object) 0) is).0;
   }
 
+  may : MayChange words (IsObjectWord words)
+  may = objects_may_change words fits clear
+
+  stamps : KeepsStamps words (IsObjectWord words)
+  stamps = objects_keep_stamps words fits clear
+
   still : FitsStill words stored
-  still = closer_fits words stored image fits clear closer
+  still = closer_fits words stored (IsObjectWord words) image fits clear may stamps closer
 
   stores : AllStores (length words) (last_mending words)
   stores = ((inside, tt), tt)
 
   undone : AreUndone 0 stored
   undone = (
-    none_new words stored _ image fits clear (objects_may_change words fits clear) closer.only,
-    closer.last ∙ sym (last_same words stored image fits clear closer),
+    none_new words stored (IsObjectWord words) image fits clear may closer.only,
+    closer.last ∙ sym (last_same words stored (IsObjectWord words) image fits clear may stamps closer),
     λ object none. absurd (omega (arith, none)),
   )
 

@@ -1,5 +1,5 @@
--- Where no split is logged, no leaf stands in the block of a segment.
-use Rattle.std.proofs.Common.{◌≡◌, ◌≢◌, ⊎_elim, ℕ, zero, suc, ◌<◌, true, false, eqb, List, [], ◌∷◌, ◌++◌, length, get_or, map, refl, ◌∙◌, ap, subst, arith}
+-- Where no split is logged, no leaf stands in the block of a segment, or of a table.
+use Rattle.std.proofs.Common.{◌≡◌, ◌≢◌, ⊎_elim, ℕ, zero, suc, ◌+◌, ◌<◌, ◌≤◌, true, false, eqb, List, [], ◌∷◌, ◌++◌, length, get_or, map, refl, sym, ◌∙◌, ap, subst, arith}
 use Rattle.std.specs.Prelude.{Contains, take}
 use Rattle.std.specs.List.{flat_map, list_any}
 use Rattle.std.proofs.lemmas.Bool.{and_parts, both_ways, cases_Bool, cond-false, eq-eqb, eqb-true, false_from_ne_true, not-true}
@@ -9,15 +9,20 @@ use Rattle.image_layout.specs.Records.{codes_header, created_header, dictionary_
 use Rattle.image_layout.specs.Tables.{all_columns, columns_of, table_block, table_count}
 use Rattle.image_layout.specs.Objects.{ready_count, segment_of, segment_pointer_at}
 use Rattle.image_layout.specs.Trees.{is_about_to_link, leaf_list, leaves_from, put_behind, stored_leaves}
-use Rattle.image_layout.specs.Owners.{Owner, array_owners, block_owners, column_owners, extension_owners, firm_owners, is_replaced, is_replaced_in, leaf_owner, link_places, NameApart, new_leaf_owners, object_owners, owner_places, owner_words, segment_owner, table_owners, text_owners, unfinished_slots}
-use Rattle.image_layout.proofs.Members.{below-Contains, Contains-cons, Contains-here, Contains-nil, Contains-there, flat_map-Contains, map-Contains}
+use Rattle.image_layout.specs.Owners.{Owner, array_owners, block_owners, column_owners, extension_owners, firm_owners, is_replaced, is_replaced_in, leaf_owner, link_places, NameApart, new_leaf_owners, object_owners, owner_places, owner_words, segment_owner, table_owner, table_owners, text_owners, unfinished_slots}
+use Rattle.image_layout.proofs.Members.{below-Contains, Contains-cons, Contains-here, Contains-map, Contains-nil, Contains-there, flat_map-Contains, map-Contains}
 use Rattle.image_layout.proofs.OwnedBlocks.{one_object, ready_named}
-use Rattle.image_layout.proofs.OwnersApart.{named, segment_in}
+use Rattle.image_layout.proofs.OwnersApart.{live_owner, named, segment_in}
 use Rattle.image_layout.proofs.Precedes.{pair_of, Precedes, precedes_across, precedes_left, precedes_map}
-use Rattle.image_layout.proofs.TableParts.{column_among, column_of}
+use Rattle.image_layout.proofs.TableParts.{column_among, column_of, in_block}
+use Rattle.image_layout.proofs.TableSlots.{few_tables}
 use Rattle.shown_state.specs.Fits.{Fits}
 use Rattle.shown_state.specs.StepLaws.{HaveNoNew}
+use Rattle.shown_state.proofs.LeavesApart.{listed_behind}
+use Rattle.shown_state.proofs.SameLeaves.{stored_listed}
+use Rattle.shown_state.proofs.ValuesApart.{at_behind, column_spot, IsAt, IsHome, one_home, part_home}
 use Rattle.opening_steps.proofs.Idle.{column_logs}
+use Rattle.opening_steps.proofs.OwnerPlaces.{Contains-take}
 
 -- a word by which a leaf is named
 record IsNamedBy (words places : List ℕ) (leaf : ℕ) : Type 0 where
@@ -107,3 +112,41 @@ module _ (words : List ℕ) (fits : Fits words) (clear : HaveNoNew 512 words) wh
       let spots = precedes_left (map (λ (o : Owner). o.at) (firm_owners words)) (unfinished_slots words) link.at other
       (precedes_map (λ (o : Owner). o.at) (firm_owners words) (leaf_owner link.at) (segment_owner words object segment) firm) in
       pair_of (NameApart words) (owner_places words) link.at other fits.apart.apart spots link.some some (not_replaced link.at other some) (link.is ∙ same)
+
+  -- a word by which a leaf is named stands behind the fixed pages
+  link_behind : (column at : ℕ) → Contains (all_columns words) column → Contains (link_places words column) at → 2048 ≤ at
+  link_behind column at is link = ⊎_elim
+      (λ (first : first_leaf_at column ≡ at).
+      let c = column_of words column is in
+      at_behind words fits c.table (suc c.number) 4 at (column_spot words fits column 4 at c (omega arith) (sym first)))
+      (λ next.
+      let (leaf, stored, here) = Contains-map next_leaf_at (stored_leaves words column) at next in
+      let behind = listed_behind words fits column leaf is (stored_listed words column leaf stored) in
+      omega (arith, behind, here))
+      (Contains-cons (first_leaf_at column) at (map next_leaf_at (stored_leaves words column))
+      (Contains-take (length (stored_leaves words column)) (first_leaf_at column ∷ map next_leaf_at (stored_leaves words column)) at link))
+
+  -- a leaf has no word of a table's block
+  pub table_or_leaf : (table offset column leaf w : ℕ) → IsAt words fits table 0 offset w → Contains (all_columns words) column → Contains (leaf_list words column) leaf → leaf ≤ w → w < leaf + 128 → ⊥
+  unfolding owner_words
+  table_or_leaf table offset column leaf w spot is listed low high =
+      let stored : Contains (stored_leaves words column) leaf = subst (λ (xs : List ℕ). Contains xs leaf) (list_stored column is) listed in
+      let link = walked words (length words) (get_or words (first_leaf_at column) 0) (first_leaf_at column) refl leaf stored in
+      let owner = leaf_owner link.at in
+      let among : Contains (owner_words words) owner =
+      Contains-append_left (flat_map (table_owners words) (below (table_count words))) (flat_map (object_owners words) (below 16)) owner (link_in column link.at is link.among) in
+      let named_leaf = link.is in
+      let home : IsHome words fits owner w = record {
+        among = among;
+        some = link.some;
+        size = 128;
+        live = live_owner words fits.entry.reserved fits.entry.descriptors fits.apart owner among (named words owner link.some);
+        low = omega (arith, named_leaf, low);
+        high = omega (arith, named_leaf, high);
+        outside = λ other has same. link.some (ap (λ (k : ℕ). get_or words k 0) same ∙ new_null other has);
+      } in
+      let places = one_home words fits (table_owner words table) owner w (part_home words fits table 0 offset w spot (in_block (omega arith) (omega arith))) home in
+      let behind = link_behind column link.at is link.among in
+      let few = few_tables words fits.entry.table_count in
+      let published = spot.published in
+      omega (arith, places, behind, few, published)

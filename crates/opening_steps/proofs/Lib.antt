@@ -20,3 +20,6 @@ pub mod Structure
 pub mod Tables
 pub mod TreeRules
 pub mod ValueRules
+pub mod VersionStep
+pub mod VersionWords
+pub mod Versions

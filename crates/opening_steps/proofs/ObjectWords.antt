@@ -1,10 +1,10 @@
 -- The last number, and the states, commit words and entries of transaction objects: none of them says where a structure stands.
-use Rattle.std.proofs.Common.{◌≡◌, ◌≢◌, ◌⊎◌, inl, inr, ⊎_elim, ℕ, zero, suc, ◌+◌, ◌<◌, ◌≤◌, List, refl, sym, ◌∙◌, subst, arith}
+use Rattle.std.proofs.Common.{◌≡◌, ◌≢◌, ◌⊎◌, inl, inr, ⊎_elim, ℕ, zero, suc, ◌+◌, ◌<◌, ◌≤◌, cond, eqb, List, length, get_or, refl, sym, ◌∙◌, ap, subst, arith}
 use Rattle.std.specs.Prelude.{Contains}
-use Rattle.image_layout.specs.Fixed.{last_at, object_at}
-use Rattle.image_layout.specs.Records.{codes_header, dictionary_header}
+use Rattle.image_layout.specs.Fixed.{last_at, object_at, version_at}
+use Rattle.image_layout.specs.Records.{codes_header, dictionary_header, inner_columns_at}
 use Rattle.image_layout.specs.Arrays.{capacity, chunk_of, place_of}
-use Rattle.image_layout.specs.Tables.{all_columns, table_block, table_count}
+use Rattle.image_layout.specs.Tables.{all_columns, column_count, inner_columns, table_block, table_count}
 use Rattle.image_layout.specs.Objects.{ready_count, segment_of, segment_pointer_at}
 use Rattle.image_layout.specs.Trees.{leaf_list}
 use Rattle.image_layout.specs.Owners.{segment_owner, text_owner}
@@ -17,8 +17,9 @@ use Rattle.shown_state.proofs.LeavesApart.{listed_behind, listed_live}
 use Rattle.shown_state.proofs.SameLeaves.{slot_under}
 use Rattle.shown_state.proofs.SameTables.{IsHeader, codes_is, dictionary_is}
 use Rattle.shown_state.proofs.ValuesApart.{at_behind, chunk_behind, chunk_or_segment, code_published, column_spot, extension_pointer_behind, first_word, header_spot, in_chunk, IsAt, IsInChunk, IsInSegment, IsInText, no_common, one_home, pointer_or_word, segment_behind, segment_home, table_or_segment, text_behind, text_home, word_spot}
-use Rattle.opening_steps.proofs.Idle.{MayChange}
+use Rattle.opening_steps.proofs.Idle.{ChangesOnly, KeepsStamps, MayChange}
 use Rattle.opening_steps.proofs.LeafHomes.{leaf_or_segment}
+use Rattle.opening_steps.proofs.Versions.{same_version}
 use Rattle.opening_steps.proofs.Structure.{IsPlace, of_codes, of_column, of_dictionary, of_extension, of_head, of_header, of_leaf, of_pair, of_ready, of_segment, of_slot, of_table, of_text}
 
 pub data IsObjectWord (words : List ℕ) (w : ℕ) : Type 0 where
@@ -92,7 +93,7 @@ module _ (words : List ℕ) (fits : Fits words) (clear : HaveNoNew 512 words) wh
       in_block (omega (arith, behind, low)) (λ object segment word number ready some few at. leaf_word column leaf object segment w is listed low high (inside object segment word w number ready few at))
 
   far : (w : ℕ) → IsPlace words w → IsFar w
-  far w (of_head low high apart) = low_far w (omega (arith, high)) apart
+  far w (of_head low high version apart) = low_far w (omega (arith, high)) apart
   far w (of_slot table lt at) = let few = few_tables words fits.entry.table_count in low_far w (omega (arith, at, lt, few)) (λ e. omega (arith, e, at))
   far w (of_ready object number at) = own_far object 2 w number (inl refl) at
   far w (of_segment object zero number le at) = own_far object 3 w number (inr refl) at
@@ -151,3 +152,34 @@ module _ (words : List ℕ) (fits : Fits words) (clear : HaveNoNew 512 words) wh
     no_slot = no_slot;
     no_key = λ column code is lt. chunk_apart (dictionary_header column) code (dictionary_is words column is) lt;
   }
+
+  -- and the version is none of them
+  pub version_apart : IsObjectWord words version_at → ⊥
+  version_apart = far_apart version_at (low_far version_at (omega arith) (λ e. omega (arith, e)))
+
+  version_same : (new : List ℕ) → ((w : ℕ) → (get_or new w 0 ≡ get_or words w 0) ⊎ IsObjectWord words w) → get_or new version_at 0 ≡ get_or words version_at 0
+  version_same new each = ⊎_elim (λ e. e) (λ hit. absurd (version_apart hit)) (each version_at)
+
+  inner_kept : (new : List ℕ) → ((w : ℕ) → (get_or new w 0 ≡ get_or words w 0) ⊎ IsObjectWord words w) → (table : ℕ) → table < table_count words
+      → inner_columns new (table_block words table) ≡ inner_columns words (table_block words table)
+  unfolding inner_columns
+  inner_kept new each table lt =
+      let block = table_block words table in
+      let says : ℕ → ℕ → ℕ → ℕ = λ version count inner. cond (eqb version 1) count inner in
+      ap (λ (version : ℕ). says version (column_count new block) (get_or new (inner_columns_at block) 0)) (version_same new each)
+      ∙ ap (λ (count : ℕ). says (get_or words version_at 0) count (get_or new (inner_columns_at block) 0))
+      (subst (λ (w : ℕ). get_or new w 0 ≡ get_or words w 0) (add_zero block) (kept (block + 0) (block_apart table 0 lt (omega arith))))
+      ∙ ap (says (get_or words version_at 0) (column_count words block)) (kept (block + 6) (block_apart table 6 lt (omega arith)))
+    where
+      kept : (w : ℕ) → (IsObjectWord words w → ⊥) → get_or new w 0 ≡ get_or words w 0
+      kept w none = ⊎_elim (λ e. e) (λ hit. absurd (none hit)) (each w)
+
+      add_zero : (n : ℕ) → n + 0 ≡ n
+      add_zero n = omega arith
+
+  -- where only they change, as many columns stand in each block, and the version is the same
+  pub objects_only : (new : List ℕ) → length new ≡ length words → ((w : ℕ) → (get_or new w 0 ≡ get_or words w 0) ⊎ IsObjectWord words w) → ChangesOnly (IsObjectWord words) words new
+  objects_only new size each = record { size = size; each = each; inner = inner_kept new each; version = same_version (version_same new each) }
+
+  pub objects_keep_stamps : KeepsStamps words (IsObjectWord words)
+  objects_keep_stamps = record { chunk = chunk_apart; bound = λ table lt. block_apart table 1 lt (omega arith) }

@@ -1,33 +1,35 @@
 -- Where the words that say where structures stand are the same, owner words are the same.
-use Rattle.std.proofs.Common.{◌≡◌, ⊎_elim, ℕ, ◌+◌, ◌<◌, ◌≤◌, min, Bool, not, ◌&&◌, cond, eqb, ltb, List, [], ◌∷◌, ◌++◌, length, get_or, map, refl, sym, ◌∙◌, ap, subst, arith}
+use Rattle.std.proofs.Common.{◌≡◌, ⊎_elim, ℕ, ◌+◌, ◌<◌, ◌≤◌, min, Bool, true, not, ◌&&◌, cond, eqb, ltb, List, [], ◌∷◌, ◌++◌, length, get_or, map, refl, sym, ◌∙◌, ap, subst, arith}
 use Rattle.std.specs.Prelude.{Contains, filter, take}
 use Rattle.std.specs.List.{flat_map}
-use Rattle.std.proofs.lemmas.Bool.{and_parts, cases_Bool, cond-false, ltb-true}
+use Rattle.std.proofs.lemmas.Bool.{and_parts, cases_Bool, cond-false, cond-true, eq-eqb, ltb-true}
 use Rattle.image_layout.specs.Fixed.{table_slot_at}
 use Rattle.image_layout.specs.Places.{below, place_in}
-use Rattle.image_layout.specs.Records.{codes_header, created_header, dictionary_header, ended_header, extension_words, first_leaf_at, new_leaf_at, next_leaf_at, table_words}
+use Rattle.image_layout.specs.Records.{codes_header, created_header, dictionary_header, ended_header, extension_words, first_extension_at, first_leaf_at, new_leaf_at, next_leaf_at, table_words}
 use Rattle.image_layout.specs.Arrays.{capacity, chunk_count, chunk_pointer_at, place_of}
-use Rattle.image_layout.specs.Tables.{table_count, table_block, table_blocks, columns_of, all_columns, array_headers, extension_count, extension_pointer_at, inner_columns, is_first_version, is_text, last_extension_pointer}
-use Rattle.image_layout.specs.Objects.{ready_count, pointer_after}
+use Rattle.image_layout.specs.Tables.{table_count, table_block, table_blocks, columns_of, all_columns, extension_count, extension_pointer_at, inner_columns, is_first_version, is_text}
+use Rattle.image_layout.specs.Objects.{ready_count}
 use Rattle.image_layout.specs.Trees.{dictionary_length, text_length}
-use Rattle.image_layout.specs.Owners.{Owner, names_one, owner_of, chunk_owner, array_owners, link_places, leaf_owner, text_block_words, text_owner, dictionary_slots, text_owners, column_owners, table_owner, extension_owner, extension_owners, block_owners, table_owners, segment_owner, object_owners, owner_words, new_leaf_owners, next_table_slots, next_text_slots, unfinished_slots, firm_owners, owner_places, next_chunk_pointers, next_extension_pointers, lane_targets}
+use Rattle.image_layout.specs.Owners.{Owner, names_one, owner_of, chunk_owner, array_owners, link_places, leaf_owner, text_block_words, text_owner, dictionary_slots, text_owners, column_owners, table_owner, extension_owner, extension_owners, block_owners, table_owners, segment_owner, object_owners, owner_words, new_leaf_owners, next_table_slots, next_text_slots, unfinished_slots, firm_owners, owner_places}
 use Rattle.image_layout.specs.Checks.{Keeps}
 use Rattle.image_layout.specs.EntryRules.{arrays_rule, tree_rule}
 use Rattle.image_layout.specs.SoundRules.{code_rule}
 use Rattle.image_layout.proofs.Members.{below-Contains, Contains-below, Contains-map, map-Contains}
+use Rattle.image_layout.proofs.TableParts.{first_inner}
+use Rattle.shown_state.specs.Fits.{BeginsFirst}
 use Rattle.shown_state.specs.Reads.{SameTree}
 use Rattle.opening_steps.proofs.Structure.{of_extension, of_header, SamePlaces, same_tree}
 use Rattle.shown_state.proofs.Alike.{map_alike, map_below, flat_map_alike, flat_map_below, filter_alike}
 use Rattle.shown_state.proofs.SameTables.{IsHeader, created_is, ended_is, codes_is, dictionary_is}
-use Rattle.opening_steps.proofs.Tables.{count_same, block_same, block_columns, extension_count_same, extension_pointer_same, first_version_same, inner_same, all_columns_same, headers_same, text_same, chunks_same, capacity_same, place_same}
+use Rattle.opening_steps.proofs.Tables.{count_same, block_same, block_columns, extension_count_same, extension_pointer_same, inner_same, all_columns_same, text_same, chunks_same, capacity_same, place_same}
 use Rattle.opening_steps.proofs.Objects.{ready_same, pointer_same, named_same}
 use Rattle.shown_state.proofs.SameLeaves.{stored_same, values_same}
 use Rattle.opening_steps.proofs.Keys.{key_length_same}
 use Rattle.shown_state.proofs.SameValueRules.{column_among}
-use Rattle.opening_steps.proofs.ReadRules.{after_same}
+use Rattle.opening_steps.proofs.Versions.{BeginsPlain, VersionGoesOn, first_is, raised, same_version, second_is, version_is}
 use Rattle.opening_steps.proofs.TreeRules.{dictionary_slots_same, slot_known}
 
-module _ (old new : List ℕ) (same : SamePlaces old new) (arrays : Keeps old arrays_rule) (trees : Keeps old tree_rule) (codes : Keeps old code_rule) where
+module _ (old new : List ℕ) (same : SamePlaces old new) (version : VersionGoesOn old new) (plain : BeginsPlain old) (arrays : Keeps old arrays_rule) (trees : Keeps old tree_rule) (codes : Keeps old code_rule) where
   abbrev tree : (column : ℕ) → Contains (all_columns old) column → SameTree old new column
   tree = same_tree old new same
 
@@ -52,9 +54,6 @@ module _ (old new : List ℕ) (same : SamePlaces old new) (arrays : Keeps old ar
       let (chunk, counted, here) = Contains-map (chunk_owner header) (below few) owner among in
       let lt = Contains-below few chunk counted in
       subst (λ (o : Owner). names_one new o ≡ names_one old o) here (ap (λ (w : ℕ). not (eqb w 0)) (chunk_word header chunk is (omega (arith, lt)))))
-
-  next_chunk_same : (header : ℕ) → IsHeader old header → next_chunk_pointers new header ≡ next_chunk_pointers old header
-  next_chunk_same header is = ap (λ (count : ℕ). cond (ltb count 12) (chunk_pointer_at header count ∷ []) []) (chunks_same old new same header is)
 
   -- ── a column ──
 
@@ -108,36 +107,47 @@ module _ (old new : List ℕ) (same : SamePlaces old new) (arrays : Keeps old ar
         ap (λ (at : ℕ). get_or new at 0) (extension_pointer_same old new same table extension published le)
         ∙ same.each (extension_pointer_at old (table_block old table) extension) (of_extension table extension published le refl)
 
-    extension_owners_same : extension_owners new (table_block old table) ≡ extension_owners old (table_block old table)
-    unfolding extension_owners
-    extension_owners_same =
+    -- the owner words of extensions, which are those of version 2
+    abbrev pointer_owners : List ℕ → List Owner
+    pointer_owners words = filter (names_one words) (map (extension_owner words (table_block old table)) (below (extension_count words (table_block old table) + 1)))
+
+    pointer_owners_same : pointer_owners new ≡ pointer_owners old
+    pointer_owners_same =
         let block = table_block old table in
         let count = extension_count old block in
-        ap (λ (first : Bool). cond first [] (filter (names_one new) (map (extension_owner new block) (below (extension_count new block + 1))))) (first_version_same old new same)
-        ∙ ap (λ (owners : List Owner). cond (is_first_version old) [] owners)
-        (filter_alike (names_one new) (names_one old) (map (extension_owner new block) (below (extension_count new block + 1))) (map (extension_owner old block) (below (count + 1)))
+        filter_alike (names_one new) (names_one old) (map (extension_owner new block) (below (extension_count new block + 1))) (map (extension_owner old block) (below (count + 1)))
         (map_below (extension_owner new block) (extension_owner old block) (extension_count new block + 1) (count + 1) (ap (λ (n : ℕ). n + 1) (extension_count_same old new same table published))
         (λ extension lt. ap (λ (at : ℕ). owner_of at extension_words) (extension_pointer_same old new same table extension published (omega (arith, lt)))))
         (λ owner among.
         let (extension, counted, here) = Contains-map (extension_owner old block) (below (count + 1)) owner among in
         let lt = Contains-below (count + 1) extension counted in
         subst (λ (o : Owner). names_one new o ≡ names_one old o) here
-        (ap (λ (w : ℕ). not (eqb w 0)) (ap (λ (at : ℕ). get_or new at 0) (sym (extension_pointer_same old new same table extension published (omega (arith, lt)))) ∙ pointer_word_same extension (omega (arith, lt))))))
+        (ap (λ (w : ℕ). not (eqb w 0)) (ap (λ (at : ℕ). get_or new at 0) (sym (extension_pointer_same old new same table extension published (omega (arith, lt)))) ∙ pointer_word_same extension (omega (arith, lt)))))
 
-    next_pointers_same : next_extension_pointers new (table_block new table) ≡ next_extension_pointers old (table_block old table)
-    next_pointers_same =
+    -- in version 1 no pointer names an extension
+    none_first : is_first_version old ≡ true → BeginsFirst old table → pointer_owners old ≡ []
+    none_first first begins =
         let block = table_block old table in
-        ap (λ (b : ℕ). next_extension_pointers new b) (block_same old new same table published)
-        ∙ ap (λ (first : Bool). cond first [] (last_extension_pointer new block ∷ [])) (first_version_same old new same)
-        ∙ ap (λ (n : ℕ). cond (is_first_version old) [] (extension_pointer_at new block n ∷ [])) (extension_count_same old new same table published)
-        ∙ ap (λ (at : ℕ). cond (is_first_version old) [] (at ∷ [])) (extension_pointer_same old new same table (extension_count old block) published (omega arith))
+        let inner = first_inner old block first in
+        let none : extension_count old block ≡ 0 = omega (arith, inner) in
+        ap (λ (n : ℕ). filter (names_one old) (map (extension_owner old block) (below (n + 1)))) none
+        ∙ ap (λ (b : Bool). cond b (extension_owner old block 0 ∷ []) []) (ap not (eq-eqb (get_or old (first_extension_at block) 0) 0 begins.no_extension))
+
+    extension_owners_same : VersionGoesOn old new → extension_owners new (table_block old table) ≡ extension_owners old (table_block old table)
+    unfolding extension_owners
+    extension_owners_same (same_version version) =
+        ap (λ (first : Bool). cond first [] (pointer_owners new)) (version_is old new version) ∙ ap (λ (owners : List Owner). cond (is_first_version old) [] owners) pointer_owners_same
+    extension_owners_same (raised one two) =
+        let first = first_is old one in
+        cond-false (is_first_version new) [] (pointer_owners new) (second_is new two) ∙ pointer_owners_same ∙ none_first first (plain first table published)
+        ∙ sym (cond-true (is_first_version old) [] (pointer_owners old) first)
 
     block_owners_same : block_owners new (table_block old table) ≡ block_owners old (table_block old table)
     block_owners_same =
         let block = table_block old table in
         let columns : List ℕ → List Owner = λ words. flat_map (column_owners words) (columns_of words block) in
         let extensions = extension_owners old block in
-        ap (λ (xs : List Owner). xs ++ array_owners new (created_header block) ++ array_owners new (ended_header block) ++ columns new) extension_owners_same
+        ap (λ (xs : List Owner). xs ++ array_owners new (created_header block) ++ array_owners new (ended_header block) ++ columns new) (extension_owners_same version)
         ∙ ap (λ (xs : List Owner). extensions ++ xs ++ array_owners new (ended_header block) ++ columns new) (array_owners_same (created_header block) (created_is old table published))
         ∙ ap (λ (xs : List Owner). extensions ++ array_owners old (created_header block) ++ xs ++ columns new) (array_owners_same (ended_header block) (ended_is old table published))
         ∙ ap (λ (xs : List Owner). extensions ++ array_owners old (created_header block) ++ array_owners old (ended_header block) ++ xs)
@@ -151,13 +161,6 @@ module _ (old new : List ℕ) (same : SamePlaces old new) (arrays : Keeps old ar
         ap (λ (b : ℕ). owner (inner_columns new b) ∷ block_owners new b) (block_same old new same table published)
         ∙ ap (λ (columns : ℕ). owner columns ∷ block_owners new block) (inner_same old new same table published)
         ∙ ap (λ (owners : List Owner). table_owner old table ∷ owners) block_owners_same
-
-    table_targets_same : flat_map (next_chunk_pointers new) (array_headers new (table_block new table)) ≡ flat_map (next_chunk_pointers old) (array_headers old (table_block old table))
-    table_targets_same =
-        let block = table_block old table in
-        ap (λ (b : ℕ). flat_map (next_chunk_pointers new) (array_headers new b)) (block_same old new same table published)
-        ∙ flat_map_alike (next_chunk_pointers new) (next_chunk_pointers old) (array_headers new block) (array_headers old block) (headers_same old new same block (block_among table published))
-        (λ header among. next_chunk_same header (record { table = table; published = published; among = among }))
 
   object_owners_same : (object : ℕ) → object < 16 → object_owners new object ≡ object_owners old object
   object_owners_same object number =
@@ -195,18 +198,3 @@ module _ (old new : List ℕ) (same : SamePlaces old new) (arrays : Keeps old ar
   pub owner_places_same : owner_places new ≡ owner_places old
   owner_places_same =
       ap (λ (xs : List Owner). map (λ owner. owner.at) xs ++ unfinished_slots new) firm_owners_same ∙ ap (λ (xs : List ℕ). map (λ owner. owner.at) (firm_owners old) ++ xs) unfinished_same
-
-  pub lane_targets_same : lane_targets new ≡ lane_targets old
-  lane_targets_same =
-      let pointers : List ℕ → List ℕ = λ words. flat_map (λ table. flat_map (next_chunk_pointers words) (array_headers words (table_block words table))) (below (table_count words)) in
-      let extensions : List ℕ → List ℕ = λ words. flat_map (λ table. next_extension_pointers words (table_block words table)) (below (table_count words)) in
-      let says : List ℕ → List ℕ → List ℕ → List ℕ → List ℕ → List ℕ = λ slots chunks columns segments last. slots ++ chunks ++ map new_leaf_at columns ++ segments ++ last in
-      let after : List ℕ → List ℕ = λ words. map (pointer_after words) (below 16) in
-      ap (λ (xs : List ℕ). says xs (pointers new) (all_columns new) (after new) (extensions new)) unfinished_same
-      ∙ ap (λ (xs : List ℕ). says (unfinished_slots old) xs (all_columns new) (after new) (extensions new))
-      (flat_map_below (λ table. flat_map (next_chunk_pointers new) (array_headers new (table_block new table))) (λ table. flat_map (next_chunk_pointers old) (array_headers old (table_block old table)))
-      (table_count new) (table_count old) (count_same old new same) table_targets_same)
-      ∙ ap (λ (xs : List ℕ). says (unfinished_slots old) (pointers old) xs (after new) (extensions new)) (all_columns_same old new same)
-      ∙ ap (λ (xs : List ℕ). says (unfinished_slots old) (pointers old) (all_columns old) xs (extensions new)) (map_below (pointer_after new) (pointer_after old) 16 16 refl (after_same old new same))
-      ∙ ap (says (unfinished_slots old) (pointers old) (all_columns old) (after old))
-      (flat_map_below (λ table. next_extension_pointers new (table_block new table)) (λ table. next_extension_pointers old (table_block old table)) (table_count new) (table_count old) (count_same old new same) next_pointers_same)

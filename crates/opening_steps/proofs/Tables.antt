@@ -1,14 +1,14 @@
 -- Where the words that say where structures stand are the same, tables, columns,
 -- arrays and dictionaries do.
-use Rattle.std.proofs.Common.{◌≡◌, ⊎_elim, ℕ, zero, suc, ◌+◌, ◌-◌, ◌/◌, ◌<◌, ◌≤◌, Bool, true, cond, eqb, List, ◌∷◌, get_or, refl, sym, ◌∙◌, ap, subst, arith}
+use Rattle.std.proofs.Common.{◌≡◌, ◌≢◌, ⊎_elim, ℕ, zero, suc, ◌+◌, ◌-◌, ◌/◌, ◌<◌, ◌≤◌, true, eqb, List, ◌∷◌, get_or, refl, sym, ◌∙◌, ap, subst, arith}
 use Rattle.std.specs.Prelude.{Contains}
 use Rattle.std.specs.List.{flat_map}
 use Rattle.std.proofs.lemmas.Bool.{cases_lt}
 use Rattle.image_layout.specs.Fixed.{table_slot_at}
 use Rattle.image_layout.specs.Places.{packed_byte, place_in}
-use Rattle.image_layout.specs.Records.{codes_header, created_header, dictionary_header, ended_header, extension_column_at, inner_columns_at, since_at}
+use Rattle.image_layout.specs.Records.{codes_header, created_header, dictionary_header, ended_header, extension_column_at, since_at}
 use Rattle.image_layout.specs.Arrays.{capacity, capacity_of, chunk_count, chunk_of, chunk_pointer_at, offset_of, place_of, array_word}
-use Rattle.image_layout.specs.Tables.{table_count, table_block, table_blocks, columns_of, all_columns, column_count, column_headers, column_record, array_headers, extension_count, extension_of, extension_pointer_at, inner_columns, is_first_version, is_text, since_of}
+use Rattle.image_layout.specs.Tables.{table_count, table_block, table_blocks, columns_of, all_columns, column_count, column_headers, column_record, array_headers, extension_count, extension_of, extension_pointer_at, inner_columns, is_text, since_of}
 use Rattle.image_layout.specs.Trees.{dictionary_length, dictionary_word, text_at, text_length}
 use Rattle.image_layout.specs.Checks.{Keeps}
 use Rattle.image_layout.specs.EntryRules.{arrays_rule}
@@ -21,7 +21,7 @@ use Rattle.shown_state.proofs.Alike.{map_below, flat_map_alike}
 
 module _ (old new : List ℕ) (same : SamePlaces old new) where
   pub count_same : table_count new ≡ table_count old
-  count_same = same.each 515 (of_head (omega arith) (omega arith) (λ e. omega (arith, e)))
+  count_same = same.each 515 (of_head (omega arith) (omega arith) (λ e. omega (arith, e)) (λ e. omega (arith, e)))
 
   pub slot_same : (table : ℕ) → table < table_count old → get_or new (table_slot_at table) 0 ≡ get_or old (table_slot_at table) 0
   slot_same table lt = same.each (table_slot_at table) (of_slot table lt refl)
@@ -33,23 +33,14 @@ module _ (old new : List ℕ) (same : SamePlaces old new) where
   blocks_same = map_below (table_block new) (table_block old) (table_count new) (table_count old) count_same block_same
 
   -- one of the first words of a table's block
-  pub table_word : (table word : ℕ) → table < table_count old → word < 7 → (word ≡ 1 → ⊥) → get_or new (table_block old table + word) 0 ≡ get_or old (table_block old table + word) 0
+  pub table_word : (table word : ℕ) → table < table_count old → word < 6 → word ≢ 1 → get_or new (table_block old table + word) 0 ≡ get_or old (table_block old table + word) 0
   table_word table word lt few other = same.each (table_block old table + word) (of_table table word lt few other refl)
-
-  pub first_version_same : is_first_version new ≡ is_first_version old
-  first_version_same = ap (λ (version : ℕ). eqb version 1) (same.each 513 (of_head (omega arith) (omega arith) (λ e. omega (arith, e))))
 
   pub column_count_same : (table : ℕ) → table < table_count old → column_count new (table_block old table) ≡ column_count old (table_block old table)
   column_count_same table lt = same.each (table_block old table) (of_table table 0 lt (omega arith) (λ e. omega (arith, e)) (omega arith))
 
   pub inner_same : (table : ℕ) → table < table_count old → inner_columns new (table_block old table) ≡ inner_columns old (table_block old table)
-  unfolding inner_columns
-  inner_same table lt =
-      let block = table_block old table in
-      let says : Bool → ℕ → ℕ → ℕ = λ first count inner. cond first count inner in
-      ap (λ (first : Bool). says first (column_count new block) (get_or new (inner_columns_at block) 0)) first_version_same
-      ∙ ap (λ (count : ℕ). says (is_first_version old) count (get_or new (inner_columns_at block) 0)) (column_count_same table lt)
-      ∙ ap (says (is_first_version old) (column_count old block)) (same.each (inner_columns_at block) (of_table table 6 lt (omega arith) (λ e. omega (arith, e)) refl))
+  inner_same = same.inner
 
   pub extension_count_same : (table : ℕ) → table < table_count old → extension_count new (table_block old table) ≡ extension_count old (table_block old table)
   extension_count_same table lt = let count = column_count_same table lt in let inner = inner_same table lt in omega (arith, count, inner)

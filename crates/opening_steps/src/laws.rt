@@ -1,5 +1,5 @@
 // The laws of the steps of opening.
-ghost use Rattle.shown_state.specs.StepLaws.{ClearsKeep, ClosesKeep, LastKeeps};
+ghost use Rattle.shown_state.specs.StepLaws.{ClearsKeep, ClosesKeep, LastKeeps, VersionKeeps};
 
 /// A law for proofs: each cut of the storing of the last commit's number keeps what fits together, and shows the same;
 /// behind it the last number is that of the last commit.
@@ -12,4 +12,10 @@ pub fn last_number_law()
 pub fn objects_law()
     ensures closes { ClosesKeep }
     ensures clears { ClearsKeep }
+{}
+
+/// A law for proofs: so does each cut of the step from version 1 to version 2, behind which the version is 2: first the block
+/// of each table says how many columns stand in it, which are all, and then the version is stored.
+pub fn version_step_law()
+    ensures { VersionKeeps }
 {}

@@ -10,9 +10,9 @@
 //! 2. at the end, what the step mends is mended.
 //!
 //! Calls, in the order of the steps: `last_number_law` (the last commit number), `objects_law` (closing and clearing of
-//! transaction objects). The other steps have no law yet.
+//! transaction objects), `version_step_law` (from version 1 to version 2). The other steps have no law yet.
 #![tactic(auto)]
 
 mod laws;
 
-pub use laws::{last_number_law, objects_law};
+pub use laws::{last_number_law, objects_law, version_step_law};
