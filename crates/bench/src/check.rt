@@ -1,6 +1,6 @@
-//! Checks a sound image that is full of live blocks. The image has a table of 16 columns for every four segments, whose arrays
-//! take the pages chunk by chunk, and as many segments of entries for each transaction object. Each table has 1,536 rows,
-//! created and ended by commit 1.
+//! Checks a sound image that is full of live blocks. The image has a table of 16 columns for every four segments, whose
+//! arrays take the pages chunk by chunk, and as many segments of entries for each transaction object. Each table has
+//! 1,536 rows, created and ended by commit 1.
 ghost use Rattle.std.specs.Prelude.{◌≤◌};
 
 use crate::filling::fill;

@@ -1,5 +1,6 @@
-//! Plays parts that are spread over a device. Each round plays one part of each of 16 sessions: 8 stores, 8 flushes and a
-//! fence. All rounds write the same 256 words, which lie anywhere in the device, so that they stay in the processor's cache.
+//! Plays parts that are spread over a device. Each round plays one part of each of 16 sessions: 8 stores, 8 flushes and
+//! a fence. All rounds write the same 256 words, which lie anywhere in the device, so that they stay in the processor's
+//! cache.
 ghost use Rattle.std.specs.Prelude.{◌<◌, ◌≤◌, length};
 
 use crate::found::{Failed, Found};

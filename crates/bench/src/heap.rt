@@ -1,6 +1,6 @@
 //! Allocates and frees blocks. 1,344 words, the owners, hold the pointers of the blocks.
-//! - `mixed`: each round takes an owner by a mixed number. Where it owns no block, one of mixed size is allocated into it,
-//!   and else its block is freed.
+//! - `mixed`: each round takes an owner by a mixed number. Where it owns no block, one of mixed size is allocated into
+//!   it, and else its block is freed.
 //! - `turns`: the same with the owners in their order: each gets a block, then each is freed, and so on.
 //! - `holes`: at first each owner gets a page, and every second one is freed. Then each round allocates a block of two
 //!   pages, for which no hole has room, or frees it.

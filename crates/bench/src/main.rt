@@ -1,7 +1,10 @@
 //! Does one piece of work over and over, so that a clock outside can time it.
 //!
-//! Its first argument says what: `check`, `engine`, `device`, `heap`, `image` or `tree`. The others are the sizes that the
-//! module of this name reads. It prints what it found. With `all` alone it does a little of each.
+//! Layer: tests and measurements, above the crates that it measures: `img_check`, `engine_core`, `pm_model`,
+//! `heap_palloc`, `pm_image`, `fp_leaf` and `fp_inner`. The scripts of `bench/` call it.
+//!
+//! Its first argument says what: `check`, `engine`, `device`, `heap`, `image` or `tree`. The others are the sizes that
+//! the module of this name reads. It prints what it found. With `all` alone it does a little of each.
 #![tactic(auto)]
 
 mod check;

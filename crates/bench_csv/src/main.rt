@@ -1,5 +1,7 @@
 //! Reads a text of CSV over and over, so that a clock or a count outside can measure it.
 //!
+//! Layer: tests and measurements, above `csv_load` and the `csv` crate under it. `bench/csv.sh` calls it.
+//!
 //! Arguments: a file that `bench/make_csv` printed, the rounds, and one word:
 //!
 //! - `same`: the csv crate reads the records, each into the same memory;

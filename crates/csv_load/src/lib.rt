@@ -1,6 +1,7 @@
 //! Texts of CSV: their records as the rows of a table, and rows as their records.
 //!
-//! Layer: texts, above `sf_value`; the `csv` crate parses records. It knows no image and no engine.
+//! Layer: texts, above `sf_value`; the `csv` crate parses records. It knows no image and no engine. No command calls it
+//! yet.
 //!
 //! Invariants:
 //! 1. the rows are those of the records, in their order, or the error is the first cause why not (`docs/CSV.md`);

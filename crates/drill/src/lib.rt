@@ -1,7 +1,7 @@
 //! A run that a number stands for: its script, the order in which its sessions go on, and its summary.
 //!
 //! Layer: texts, above `script_text`, whose lines it makes. It steps no engine: who drives a run asks it for the next
-//! move.
+//! move. No command does yet.
 //!
 //! State: none. A script, a pick and a move are functions of the number and the turn, and of how the sessions stand.
 //!

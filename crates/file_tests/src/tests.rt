@@ -17,7 +17,8 @@ fn write_new<W: Write>(file: &mut W) -> IoResult<()> {
     file.flush()
 }
 
-/// What a writing over the old bytes answers, and whether the path shows the old bytes and the new ones, and a file beside it.
+/// What a writing over the old bytes answers, and whether the path shows the old bytes and the new ones, and a file
+/// beside it.
 fn outcome(
     alloc: Global,
     allows: bool,

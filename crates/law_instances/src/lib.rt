@@ -1,8 +1,9 @@
 //! That laws about plans say something: what they ask is met, one after the other, over a formatted image.
 //!
-//! Layer: tests, above `txn_object` and `catalog`, whose laws it uses as a caller does. It has no code.
+//! Layer: tests and measurements, above `txn_object`, `catalog` and `mv_model`, whose laws it uses as a caller does. No
+//! crate stands on it, and it has no code.
 //!
-//! State: none.
+//! State: none. `specs/OneTransaction` and `specs/FirstTable` have the words that each plan leaves.
 //!
 //! Laws: `transaction_law` (a begin, an entry and a retire, each over the words that the one before it leaves),
 //! `creation_law` (the first table), `consistency_law` (the states of a store's histories).

@@ -75,8 +75,8 @@ fn places_are<M: Memory>(alloc: Global, memory: &M, table: &[(u32, u32)]) -> Res
     Ok(same)
 }
 
-// Of a filled object: whether each extension has its actions and each entry its place, the ready segments, the pointer to
-// the first, the free entries, whether there are no entries, and what the next extension answers.
+// Of a filled object: whether each extension has its actions and each entry its place, the ready segments, the pointer
+// to the first, the free entries, whether there are no entries, and what the next extension answers.
 type Filled = (bool, u64, u64, u32, bool, Option<ExtendError>);
 
 const PLACES: [(u32, u32); 6] = [

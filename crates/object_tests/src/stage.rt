@@ -32,8 +32,8 @@ fn whole_transaction(alloc: Global) -> Result<Plan, NoMemory>
     Ok(plan)
 }
 
-// The object's state, its first two entry words, how many are free, how many session 2's object has free, and whether the
-// entries are these.
+// The object's state, its first two entry words, how many are free, how many session 2's object has free, and whether
+// the entries are these.
 type Seen = (u64, u64, u64, u32, u32, bool);
 
 fn seen<M: Memory>(alloc: Global, memory: &M, wanted: &[Entry]) -> Result<Seen, NoMemory> {

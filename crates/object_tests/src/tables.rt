@@ -80,8 +80,8 @@ fn create_all<M: Memory>(
     Ok(())
 }
 
-// The version, the count of tables, the first table's slot, how many columns stand in its block and its bound of rows; and the
-// number of `t`.
+// The version, the count of tables, the first table's slot, how many columns stand in its block and its bound of rows;
+// and the number of `t`.
 type Seen = ([u64; 5], Option<u32>);
 
 fn seen<M: Memory>(rt: &impl Abort, memory: &M, catalog: &Catalog) -> Seen {

@@ -148,8 +148,8 @@ fn are_zeros<M: Memory>(memory: &M, first: u32, count: u32) -> bool
     true
 }
 
-// Whether the object is idle, and its words but for the segments and their pointers are 0. Its segments stand in pages 4 to
-// 35.
+// Whether the object is idle, and its words but for the segments and their pointers are 0. Its segments stand in pages
+// 4 to 35.
 fn is_idle<M: Memory>(memory: &M) -> bool {
     let mut idle = are_zeros(memory, 1_024, 2) && are_zeros(memory, 1_028, 60);
     for page in 4..36 {
@@ -158,8 +158,8 @@ fn is_idle<M: Memory>(memory: &M) -> bool {
     idle
 }
 
-// Retires the transaction of all places, and enters into the next one. Whether the object is idle between them, and has its
-// entries then.
+// Retires the transaction of all places, and enters into the next one. Whether the object is idle between them, and has
+// its entries then.
 fn retire_and_enter<M: Memory>(alloc: Global, memory: &mut M) -> Result<bool, NoMemory>
     requires { HasEntries (M.device memory.old) 32 8220 }
 {

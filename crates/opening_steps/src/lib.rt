@@ -1,7 +1,7 @@
 //! What the steps of opening keep of a whole image, whatever a power cut leaves of it.
 //!
-//! Layer: what an image shows, and how it opens, above `shown_state`, whose `StepKeeps` says what a step has to keep. No
-//! other crate stands on it yet.
+//! Layer: what an image shows, and how it opens, above `shown_state`, whose `StepKeeps` says what a step has to keep.
+//! No other crate stands on it yet.
 //!
 //! State: none. The laws are of the words of an image that fits together (`Fits`).
 //!

@@ -8,8 +8,8 @@ use std::alloc::Global;
 use std::test::Fail;
 
 // Three commits, and four rows below the table's bound, whose words stand in the pages 5 to 7, the first chunks of the
-// arrays of creators, of enders and of codes. Row 0 was created by commit 1, row 1 by commit 2 and ended by commit 3, row 2
-// is dead, and row 3 was never created.
+// arrays of creators, of enders and of codes. Row 0 was created by commit 1, row 1 by commit 2 and ended by commit 3,
+// row 2 is dead, and row 3 was never created.
 const ROWS: [Change; 15] = [
     (514, 3),
     (2057, 4),
@@ -159,8 +159,8 @@ fn stamps_fit_the_bound_and_the_commits(rt: HostRuntime) -> Result<(), Fail> {
     Ok(())
 }
 
-// Four rows below the table's bound, of which commits 1 and 2 created the first two. The arrays of stamps are the pages 6
-// and 7.
+// Four rows below the table's bound, of which commits 1 and 2 created the first two. The arrays of stamps are the pages
+// 6 and 7.
 const MOVED_ROWS: [Change; 10] = [
     (514, 3),
     (2057, 4),

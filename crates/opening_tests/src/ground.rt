@@ -32,8 +32,8 @@ pub(crate) const PAGE_5: u64 = 4_294_969_856;
 /// What makes the image with the table one of version 1.
 pub(crate) const FIRST_VERSION: [Change; 2] = [(513, 1), (2062, 0)];
 
-/// Two columns more, `b:text` and `c:int`, in extensions, which are the first two slots of page 5. The rows below 2 have no
-/// word in `b`, and those below 4 have none in `c`.
+/// Two columns more, `b:text` and `c:int`, in extensions, which are the first two slots of page 5. The rows below 2
+/// have no word in `b`, and those below 4 have none in `c`.
 pub(crate) const EXTENSIONS: [Change; 11] = [
     (2056, 3),
     (2061, EXTENSION),

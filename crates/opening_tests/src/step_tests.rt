@@ -1,4 +1,5 @@
-// The steps of opening: the plan that each finds on an image in which words were changed, and lanes that a power cut left.
+// The steps of opening: the plan that each finds on an image in which words were changed, and lanes that a power cut
+// left.
 ghost use Rattle.std.specs.Prelude.{◌≡◌, ◌≤◌, IfOk, IsTrue, None};
 ghost use Rattle.image_layout.specs.Checks.{first_fault};
 ghost use Rattle.pmem_recover.specs.EntryRules.{entry_rules};
@@ -279,8 +280,9 @@ fn the_block_of_a_table_that_was_being_created_is_freed(rt: HostRuntime) -> Resu
     Ok(())
 }
 
-// Two commits, three rows below the table's bound, and an open transaction without a commit word. It created the rows 3, 4
-// and 2, and ended the rows 0, 1 and 2. The stamps of commit 3 are its own. Those of row 2 are of commits that are kept.
+// Two commits, three rows below the table's bound, and an open transaction without a commit word. It created the rows
+// 3, 4 and 2, and ended the rows 0, 1 and 2. The stamps of commit 3 are its own. Those of row 2 are of commits that are
+// kept.
 const UNDECIDED: [Change; 17] = [
     (514, 2),
     (2057, 3),
@@ -460,8 +462,8 @@ fn objects_with_a_commit_word_are_closed(rt: HostRuntime) -> Result<(), Fail> {
     Ok(())
 }
 
-// Object 0 stands at 1024 and object 15 at 1984: the state, the commit word, the number of ready segments, the pointer to
-// the first one, and then the entries.
+// Object 0 stands at 1024 and object 15 at 1984: the state, the commit word, the number of ready segments, the pointer
+// to the first one, and then the entries.
 const OWN: [Action; 6] = [
     store!(1028, 0),
     store!(1087, 0),
@@ -537,8 +539,8 @@ fn version_1_becomes_version_2(rt: HostRuntime) -> Result<(), Fail> {
 }
 
 // The allocation of 80 words on a formatted image through lane 0, whose pointer goes into place 520: page 4 becomes a
-// small page of class 4, and its first slot, at place 2056, is the block. Then the op of its freeing, for which the lane
-// has the two pointers already.
+// small page of class 4, and its first slot, at place 2056, is the block. Then the op of its freeing, for which the
+// lane has the two pointers already.
 const ALLOCATION_AND_FREEING: [Action; 25] = [
     store!(2048, 0),
     flush!(256),
@@ -617,7 +619,8 @@ fn mend_lanes<M: Memory>(rt: &impl Abort, alloc: Global, memory: &mut M) -> Resu
     Ok(())
 }
 
-// What a power cut leaves of the image of version 1 after so many actions of the step to version 2, and then the step anew.
+// What a power cut leaves of the image of version 1 after so many actions of the step to version 2, and then the step
+// anew.
 fn cut_version(
     rt: &impl Abort,
     alloc: Global,
@@ -686,8 +689,8 @@ fn mended_cut(
     Ok(seen(rt, &opened))
 }
 
-// The owner's word is stored by the 17th action and safe from the 19th on, and the op of the freeing by the 23rd and the
-// 25th.
+// The owner's word is stored by the 17th action and safe from the 19th on, and the op of the freeing by the 23rd and
+// the 25th.
 #[test]
 fn a_cut_allocation_or_freeing_is_done_or_undone(rt: HostRuntime) -> Result<(), Fail> {
     for played in 0..=25 {

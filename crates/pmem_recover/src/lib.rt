@@ -1,7 +1,7 @@
 //! Opening an image that a power cut left: which images are refused, and the plans that mend the others.
 //!
 //! Layer: what an image shows, and how it opens, above the structures and `image_rules`. What the steps come to is said
-//! in `shown_state`.
+//! in `shown_state`. No library stands on it yet: `power_cuts` opens images by its steps.
 //!
 //! State: none. Each call reads the words as they are, so an opening that is cut begins again from the first step.
 //!
@@ -17,8 +17,8 @@
 //! - `next_slot` frees the block of a table that was being created, and `next_last` raises the last commit number.
 //! - `next_undo` takes back the transactions that are open and have no commit word, `next_idle` closes those that have
 //!   one, and `next_clear` clears the entries and the commit words.
-//! - `next_version` brings an image of version 1 to version 2. What a power cut leaves of its plan shows the same tables and
-//!   columns, and is mended to the same words (`version_law`).
+//! - `next_version` brings an image of version 1 to version 2. What a power cut leaves of its plan shows the same
+//!   tables and columns, and is mended to the same words (`version_law`).
 //!
 //! What a cut can leave: of the mending of a lane words that are mended to the same words (`lane_opening_law`); of the
 //! other steps the table stands in `docs/OPENING.md`.

@@ -1,5 +1,6 @@
-//! Each power cut of the extension of a transaction object that has a ready segment and entries of an open transaction: the
-//! ready segments are those before or after, the entries stay, a new segment has none, and opening undoes the transaction.
+//! Each power cut of the extension of a transaction object that has a ready segment and entries of an open transaction:
+//! the ready segments are those before or after, the entries stay, a new segment has none, and opening undoes the
+//! transaction.
 ghost use Rattle.std.specs.Prelude.{◌≤◌};
 ghost use Rattle.txn_object.specs.TestObject.{HasEntries};
 
@@ -150,7 +151,8 @@ fn cut_everywhere(
     Ok(())
 }
 
-// A page becomes small, a segment is allocated on it, its 256 words are made 0, and it is ready: 6, 16, 289 and 3 actions.
+// A page becomes small, a segment is allocated on it, its 256 words are made 0, and it is ready: 6, 16, 289 and 3
+// actions.
 #[test]
 fn a_cut_extension_keeps_all_entries(rt: HostRuntime) -> Result<(), Fail> {
     cut_everywhere(&rt, rt.alloc(), Behind::Nothing, 314)?;

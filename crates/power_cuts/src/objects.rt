@@ -1,5 +1,5 @@
-//! An image with one table, and an open transaction of session 1 that created 63 rows of it, which fill its object and begin a
-//! segment.
+//! An image with one table, and an open transaction of session 1 that created 63 rows of it, which fill its object and
+//! begin a segment.
 ghost use Rattle.std.specs.Prelude.{◌≡◌, ℕ, ◌+◌, ◌<◌, ◌≤◌, None, IfOk, length, slice_index};
 ghost use Rattle.image_layout.specs.Fixed.{lane_op_at, ready_at, first_segment_at};
 ghost use Rattle.image_layout.specs.Places.{place_in};

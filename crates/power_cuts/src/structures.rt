@@ -1,5 +1,5 @@
-//! Each power cut of the first extension of a transaction object and of the creation of a table: opened step by step, the
-//! image is sound and has the change whole or not at all.
+//! Each power cut of the first extension of a transaction object and of the creation of a table: opened step by step,
+//! the image is sound and has the change whole or not at all.
 ghost use Rattle.std.specs.Prelude.{◌≡◌, ◌≤◌, None, slice_index};
 ghost use Rattle.image_layout.specs.Fixed.{lane_op_at, ready_at, first_segment_at, table_count_at, table_slot_at};
 ghost use Rattle.image_layout.specs.Checks.{first_fault};
@@ -188,8 +188,8 @@ fn made_after(
     made
 }
 
-// Cuts a change after each of its actions: it is made from the store on that publishes it, where all is kept, and from its
-// last action on, where only what is durable is.
+// Cuts a change after each of its actions: it is made from the store on that publishes it, where all is kept, and from
+// its last action on, where only what is durable is.
 fn cut_everywhere(
     rt: &impl Abort,
     alloc: Global,
@@ -215,7 +215,8 @@ fn cut_everywhere(
     Ok(())
 }
 
-// A page becomes small, a segment is allocated on it, its 256 words are made 0, and it is ready: 6, 16, 289 and 3 actions.
+// A page becomes small, a segment is allocated on it, its 256 words are made 0, and it is ready: 6, 16, 289 and 3
+// actions.
 #[test]
 fn a_cut_extension_is_made_or_not(rt: HostRuntime) -> Result<(), Fail> {
     cut_everywhere(&rt, rt.alloc(), Change::Extension, 314)?;

@@ -124,8 +124,8 @@ fn word(words: &[u64], place: usize) -> u64 {
     words.get(place).copied().unwrap_or(0)
 }
 
-/// What the image shows that is opened behind a cut of the script, and whether each cut of its opening leads to the same
-/// words.
+/// What the image shows that is opened behind a cut of the script, and whether each cut of its opening leads to the
+/// same words.
 fn shown_after(
     rt: &impl Abort,
     alloc: Global,
@@ -139,8 +139,8 @@ fn shown_after(
     Ok((shown, same))
 }
 
-/// The script plays 27 actions: the entry of the row is stored by the fourth and fenced by the sixth, and the commit word is
-/// stored by the fifteenth and fenced by the seventeenth.
+/// The script plays 27 actions: the entry of the row is stored by the fourth and fenced by the sixth, and the commit
+/// word is stored by the fifteenth and fenced by the seventeenth.
 fn expected(cut: u64, keep: Keep) -> Shown {
     let all = keep == Keep::All;
     if cut >= 17 || (all && cut >= 15) {

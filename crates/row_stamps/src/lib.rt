@@ -1,6 +1,7 @@
 //! The stamps of a row: which commit created it, which one ended it, and who sees it.
 //!
-//! Layer: structures over words, above `pm_model`. Where a row's words stand is the caller's.
+//! Layer: structures over words, above `pm_model`. Where a row's words stand is the caller's. No library stands on it
+//! yet.
 //!
 //! Layout: a row has two words. The first is 0 before the row is created, then the number of the commit that created
 //! it, and all ones where that transaction was undone. The second is 0, or the number of the commit that ended the row.

@@ -1,6 +1,7 @@
 //! Arrays of words that grow by chunks, whose words never move.
 //!
 //! Layer: structures over words, above `heap_palloc`. The arrays of a table's rows, codes and dictionaries are such.
+//! `pmem_recover` asks it where the stamps of a row stand.
 //!
 //! Layout: the header of an array has 16 words: how many chunks are published, 12 chunk pointers, and three words of 0.
 //! Chunk i has 1, 2, 4, 8, 16, 32 pages for i from 0 to 5, and 32 pages from 6 on. A chunk whose pointer stands behind

@@ -74,8 +74,8 @@ fn a_cut_leaves_a_commit_whole_or_not_at_all(rt: HostRuntime) -> Result<(), Fail
     Ok(())
 }
 
-/// After which action the power is cut, what is kept, what is printed, the image's bytes, and whether they are those of the
-/// formatted image.
+/// After which action the power is cut, what is kept, what is printed, the image's bytes, and whether they are those of
+/// the formatted image.
 const KEPT: [(&str, &str, &str, usize, bool); 4] = [
     ("0", "nothing", "", 8_220, true),
     ("2", "nothing", BEGAN, 8_220, true),

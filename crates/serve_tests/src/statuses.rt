@@ -54,8 +54,8 @@ fn ends(
     )
 }
 
-/// The stream, which of its calls fails, the status, and whether the image and the text were taken. A sink's second call
-/// is its flush.
+/// The stream, which of its calls fails, the status, and whether the image and the text were taken. A sink's second
+/// call is its flush.
 const FAULTS: [(Stream, u32, Status, bool, bool); 8] = [
     (Stream::Image, 0, Status::ReadFault, false, false),
     (Stream::Input, 0, Status::ReadFault, false, false),

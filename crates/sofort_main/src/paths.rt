@@ -15,8 +15,8 @@ pub(crate) enum Role {
     ImageOut,
 }
 
-/// The path of the file with this role, where the command has one. A source without a path is empty, and a sink without one
-/// takes nothing.
+/// The path of the file with this role, where the command has one. A source without a path is empty, and a sink without
+/// one takes nothing.
 pub(crate) fn path_of(paths: &Paths, role: Role) -> Option<&str>
     ensures { option_copied result ≡ path_in role paths.now }
 {

@@ -74,8 +74,8 @@ fn play<M: Memory>(core: &mut Core<M>, cut: u64) {
     }
 }
 
-/// Starts the statement's call, and steps until it is replied, or until so many actions were played since the opening. It
-/// says how many actions it played. Where another call is in flight it does nothing.
+/// Starts the statement's call, and steps until it is replied, or until so many actions were played since the opening.
+/// It says how many actions it played. Where another call is in flight it does nothing.
 pub fn say<M: Memory>(
     alloc: Global,
     core: &mut Core<M>,
