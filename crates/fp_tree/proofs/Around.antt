@@ -141,6 +141,9 @@ pairwise_or_first R [] (x ∷ xs) pairs = (tt, tt)
 pub each_indexed : (P : ℕ → Type 0) (words leaves : List ℕ) → Each P leaves → Each P (indexed words leaves)
 each_indexed P words leaves each = each_or_first P (filter (has_pairs words) leaves) leaves (each_filtered P (has_pairs words) leaves each) each
 
+pub pairwise_indexed : (R : ℕ → ℕ → Type 0) (words leaves : List ℕ) → Pairwise R leaves → Pairwise R (indexed words leaves)
+pairwise_indexed R words leaves pairs = pairwise_or_first R (filter (has_pairs words) leaves) leaves (pairwise_filtered R (has_pairs words) leaves pairs)
+
 pub ordered_indexed : (words leaves : List ℕ) → AreOrdered words leaves → AreOrdered words (indexed words leaves)
 ordered_indexed words leaves ordered = pairwise_or_first (KeysBelow words) (filter (has_pairs words) leaves) leaves (pairwise_filtered (KeysBelow words) (has_pairs words) leaves ordered)
 

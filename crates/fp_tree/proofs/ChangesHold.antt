@@ -94,7 +94,7 @@ insertion_holds column before after i = record {
 
 -- ── a first leaf ──
 
-may_start : (column : ℕ) (choice : Choice) (base : List ℕ) → MayGetFirst column choice base → MayStart base column (new_leaf choice) (choice_parts base choice)
+pub may_start : (column : ℕ) (choice : Choice) (base : List ℕ) → MayGetFirst column choice base → MayStart base column (new_leaf choice) (choice_parts base choice)
 may_start column choice base may = record {
   tree = may.tree;
   quiet = may.quiet;

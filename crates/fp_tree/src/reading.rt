@@ -19,8 +19,8 @@ pub(crate) const LEAF_WORDS: u32 = 104;
 /// How many slots a leaf has.
 pub(crate) const SLOTS: u8 = 48;
 
-// The bitmap of a leaf without a free slot.
-const FULL: u64 = (1 << SLOTS) - 1;
+/// The bitmap of a leaf without a free slot.
+pub(crate) const FULL: u64 = (1 << SLOTS) - 1;
 
 // The words before the first pair: the bitmap, the next pointer and the fingerprints.
 const HEAD_WORDS: u32 = 8;

@@ -16,8 +16,8 @@ use std::sync::ledger::{Blank, Ledger};
 /// are its leaves.
 #[derive(Drop)]
 pub struct Tree {
-    column: Place,
-    inner: Inner,
+    pub(crate) column: Place,
+    pub(crate) inner: Inner,
 }
 
 impl Model for Tree {
