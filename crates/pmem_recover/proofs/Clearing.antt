@@ -13,7 +13,7 @@ use Rattle.pm_model.specs.Needed.{needed_stores}
 use Rattle.image_layout.specs.Objects.{entry_places}
 use Rattle.image_layout.proofs.Members.{Contains-filter, map-Contains}
 use Rattle.shown_state.specs.Mending.{clear_mending}
-use Rattle.pmem_recover.specs.declared.change.Change.{Change}
+use Rattle.pmem_recover.specs.declared.change.WordChange.{WordChange}
 use Rattle.pmem_recover.specs.Changes.{change, change_part}
 use Rattle.pmem_recover.specs.Filled.{is_filled, places_of}
 use Rattle.pmem_recover.specs.Steps.{step_parts}
@@ -59,7 +59,7 @@ zeros-part : (places : List Place) (last : ℕ) → change_part (map (λ at. cha
 zeros-part [] last = refl
 zeros-part (place ∷ places) last = ap (λ (p : Part). store place.0 0 ∷ p) (zeros-part places last)
 
-pub clear-planned : (words : List ℕ) (object last : ℕ) (filled : List Place) (part : List Change) (before left : List Action) → last ≡ commit_word_at object
+pub clear-planned : (words : List ℕ) (object last : ℕ) (filled : List Place) (part : List WordChange) (before left : List Action) → last ≡ commit_word_at object
     → places_of filled ≡ filter (is_filled words) (entry_places words object) → part ≡ map (λ at. change at.0 0) filled ++ change last 0 ∷ [] → before ≡ []
     → left ≡ before ++ plan_of (unless_empty (needed_stores words (change_part part))) → left ≡ plan_of (step_parts clear_mending words object)
 clear-planned words object last filled part before left at places_are part_is empty is =
@@ -80,8 +80,8 @@ filled-within words filled places are k d lt =
     let among : Contains (places_of filled) (get_or filled k d).0 = map-Contains (λ (place : Place). place.0) filled (get_or filled k d) (Contains-get_or filled k d lt) in
     filled-inside words (get_or filled k d).0 (Contains-filter (is_filled words) places (get_or filled k d).0 (subst (λ (xs : List ℕ). Contains xs (get_or filled k d).0) are among)).1
 
-pub clear-within : (words : List ℕ) (filled : List Place) (places : List ℕ) (last : ℕ) (part now : List Change) → places_of filled ≡ filter (is_filled words) places → last < length words
+pub clear-within : (words : List ℕ) (filled : List Place) (places : List ℕ) (last : ℕ) (part now : List WordChange) → places_of filled ≡ filter (is_filled words) places → last < length words
     → part ≡ map (λ at. change at.0 0) filled ++ change last 0 ∷ [] → now ≡ part → All (λ change. change.place.0 < length words) now
-clear-within words filled places last part now are inside is same = subst (λ (cs : List Change). All (λ change. change.place.0 < length words) cs) (sym (same ∙ is))
+clear-within words filled places last part now are inside is same = subst (λ (cs : List WordChange). All (λ change. change.place.0 < length words) cs) (sym (same ∙ is))
     (All-push (λ change. change.place.0 < length words) (map (λ at. change at.0 0) filled) (change last 0)
     (All-map (λ change. change.place.0 < length words) (λ at. change at.0 0) filled (filled-within words filled places are)) inside)

@@ -13,19 +13,19 @@ use Rattle.heap_palloc.specs.Lane.{is_big_place, mark_at, unmarked}
 use Rattle.heap_palloc.specs.Parts.{freeing_parts, free_page_parts}
 use Rattle.heap_palloc.specs.Choice.{freed_parts}
 use Rattle.shown_state.specs.Mending.{free_block}
-use Rattle.pmem_recover.specs.declared.change.Change.{Change}
+use Rattle.pmem_recover.specs.declared.change.WordChange.{WordChange}
 use Rattle.pmem_recover.specs.Changes.{change, change_part, change_parts}
 use Rattle.pmem_recover.specs.Lanes.{release}
 use Rattle.shown_state.proofs.LaneMending.{pointer_parts, block_pointer, block_slot}
 
 -- the changes of a freeing: the log of the lane, and then one by one
-abbrev pub log_of : List ℕ → ℕ → List Change
+abbrev pub log_of : List ℕ → ℕ → List WordChange
 log_of words at = change (lane_dest_at 0) (pointer_word at) ∷ change (lane_block_at 0) (get_or words at 0) ∷ []
 
-abbrev pub later_of : List ℕ → ℕ → List Change
+abbrev pub later_of : List ℕ → ℕ → List WordChange
 later_of words at = change (lane_op_at 0) 2 ∷ change at 0 ∷ release words (place_in (get_or words at 0)) ∷ change (lane_op_at 0) 0 ∷ []
 
-abbrev pub page_of_block : List ℕ → ℕ → Change
+abbrev pub page_of_block : List ℕ → ℕ → WordChange
 page_of_block words at = change (descriptor_at (page_of (place_in (get_or words at 0)))) 0
 
 module _ (words : List ℕ) (at : ℕ) (is : is_block_pointer words (get_or words at 0) ≡ true) where
@@ -67,14 +67,14 @@ module _ (words : List ℕ) (at : ℕ) (is : is_block_pointer words (get_or word
       ∙ ap (λ (v : ℕ). change_part (log_of words at) ∷ one_store (lane_op_at 0) 2 ∷ one_store at 0 ∷ one_store (mark_at b) v ∷ one_store (lane_op_at 0) 0 ∷ cond (eqb v 0) (free_page_parts page) []) (sym value)
 
 -- a change by its place and value
-pub change-is : (c : Change) (place value : ℕ) → c.place.0 ≡ place → c.value ≡ value → c ≡ change place value
+pub change-is : (c : WordChange) (place value : ℕ) → c.place.0 ≡ place → c.value ≡ value → c ≡ change place value
 change-is c place value at is = ap (λ (p : ℕ). change p c.value) at ∙ ap (change place) is
 
-abbrev pub all_of : List ℕ → ℕ → List Change
+abbrev pub all_of : List ℕ → ℕ → List WordChange
 all_of words at = change (lane_dest_at 0) (pointer_word at) ∷ change (lane_block_at 0) (get_or words at 0) ∷ change (lane_op_at 0) 2 ∷ change at 0 ∷ release words (place_in (get_or words at 0)) ∷ change (lane_op_at 0) 0 ∷ page_of_block words at ∷ []
 
 -- the parts of the first changes, so many of them
-abbrev pub parts_of_first : ℕ → List Change → List Part
+abbrev pub parts_of_first : ℕ → List WordChange → List Part
 parts_of_first count changes = change_part (take 2 (take count changes)) ∷ change_parts (drop 2 (take count changes))
 
 module _ (words : List ℕ) (at : ℕ) (is : is_block_pointer words (get_or words at 0) ≡ true) where
@@ -93,22 +93,22 @@ module _ (words : List ℕ) (at : ℕ) (is : is_block_pointer words (get_or word
       ∙ ap (λ (b : Bool). change_part (log_of words at) ∷ (change_parts (later_of words at) ++ cond b (free_page_parts (page_of (place_in (get_or words at 0)))) [])) (eq-eqb _ 0 clear)
       ∙ ap (λ (n : ℕ). parts_of_first n (all_of words at)) (sym seven)
 
-  pub freeing-planned : (changes : List Change) (count : ℕ) (before left : List Action) → changes ≡ all_of words at → free_block words at ≡ parts_of_first count (all_of words at) → before ≡ []
+  pub freeing-planned : (changes : List WordChange) (count : ℕ) (before left : List Action) → changes ≡ all_of words at → free_block words at ≡ parts_of_first count (all_of words at) → before ≡ []
       → left ≡ before ++ plan_of (needed_parts words (parts_of_first count changes)) → left ≡ plan_of (needed_parts words (free_block words at))
   freeing-planned changes count before left changes_are parts_are empty left_is =
       left_is ∙ ap (λ (xs : List Action). xs ++ plan_of (needed_parts words (parts_of_first count changes))) empty
-      ∙ ap (λ (cs : List Change). plan_of (needed_parts words (parts_of_first count cs))) changes_are
+      ∙ ap (λ (cs : List WordChange). plan_of (needed_parts words (parts_of_first count cs))) changes_are
       ∙ ap (λ (ps : List Part). plan_of (needed_parts words ps)) (sym parts_are)
 
 -- the changes as they were made
-pub all-made : (words : List ℕ) (at block : ℕ) (c1 c2 c3 c4 c5 c6 c7 : Change) → block ≡ place_in (get_or words at 0)
+pub all-made : (words : List ℕ) (at block : ℕ) (c1 c2 c3 c4 c5 c6 c7 : WordChange) → block ≡ place_in (get_or words at 0)
     → c1 ≡ change (lane_dest_at 0) (pointer_word at) → c2 ≡ change (lane_block_at 0) (get_or words at 0) → c3 ≡ change (lane_op_at 0) 2 → c4 ≡ change at 0 → c5 ≡ release words block → c6 ≡ change (lane_op_at 0) 0 → c7 ≡ change (descriptor_at (page_of block)) 0
     → c1 ∷ c2 ∷ c3 ∷ c4 ∷ c5 ∷ c6 ∷ c7 ∷ [] ≡ all_of words at
 all-made words at block c1 c2 c3 c4 c5 c6 c7 is e1 e2 e3 e4 e5 e6 e7 =
-    ap (λ (c : Change). c ∷ c2 ∷ c3 ∷ c4 ∷ c5 ∷ c6 ∷ c7 ∷ []) e1
-    ∙ ap (λ (c : Change). change (lane_dest_at 0) (pointer_word at) ∷ c ∷ c3 ∷ c4 ∷ c5 ∷ c6 ∷ c7 ∷ []) e2
-    ∙ ap (λ (c : Change). log_of words at ++ c ∷ c4 ∷ c5 ∷ c6 ∷ c7 ∷ []) e3
-    ∙ ap (λ (c : Change). log_of words at ++ change (lane_op_at 0) 2 ∷ c ∷ c5 ∷ c6 ∷ c7 ∷ []) e4
-    ∙ ap (λ (c : Change). log_of words at ++ change (lane_op_at 0) 2 ∷ change at 0 ∷ c ∷ c6 ∷ c7 ∷ []) (e5 ∙ ap (release words) is)
-    ∙ ap (λ (c : Change). log_of words at ++ change (lane_op_at 0) 2 ∷ change at 0 ∷ release words (place_in (get_or words at 0)) ∷ c ∷ c7 ∷ []) e6
-    ∙ ap (λ (c : Change). log_of words at ++ change (lane_op_at 0) 2 ∷ change at 0 ∷ release words (place_in (get_or words at 0)) ∷ change (lane_op_at 0) 0 ∷ c ∷ []) (e7 ∙ ap (λ (b : ℕ). change (descriptor_at (page_of b)) 0) is)
+    ap (λ (c : WordChange). c ∷ c2 ∷ c3 ∷ c4 ∷ c5 ∷ c6 ∷ c7 ∷ []) e1
+    ∙ ap (λ (c : WordChange). change (lane_dest_at 0) (pointer_word at) ∷ c ∷ c3 ∷ c4 ∷ c5 ∷ c6 ∷ c7 ∷ []) e2
+    ∙ ap (λ (c : WordChange). log_of words at ++ c ∷ c4 ∷ c5 ∷ c6 ∷ c7 ∷ []) e3
+    ∙ ap (λ (c : WordChange). log_of words at ++ change (lane_op_at 0) 2 ∷ c ∷ c5 ∷ c6 ∷ c7 ∷ []) e4
+    ∙ ap (λ (c : WordChange). log_of words at ++ change (lane_op_at 0) 2 ∷ change at 0 ∷ c ∷ c6 ∷ c7 ∷ []) (e5 ∙ ap (release words) is)
+    ∙ ap (λ (c : WordChange). log_of words at ++ change (lane_op_at 0) 2 ∷ change at 0 ∷ release words (place_in (get_or words at 0)) ∷ c ∷ c7 ∷ []) e6
+    ∙ ap (λ (c : WordChange). log_of words at ++ change (lane_op_at 0) 2 ∷ change at 0 ∷ release words (place_in (get_or words at 0)) ∷ change (lane_op_at 0) 0 ∷ c ∷ []) (e7 ∙ ap (λ (b : ℕ). change (descriptor_at (page_of b)) 0) is)

@@ -10,26 +10,26 @@ use Rattle.heap_palloc.specs.Lane.{mended_lane}
 use Rattle.shown_state.specs.LaneRules.{MayMend}
 use Rattle.shown_state.specs.Mending.{lane_mending, release_part}
 use Rattle.shown_state.proofs.LaneMending.{AtWork, owner_of, block_of, mending-freeing, mending-done, mending-undone, step-idle, some-at_work, lane_plan, lane_cuts, lane_mends, lane_idle}
-use Rattle.pmem_recover.specs.declared.change.Change.{Change}
+use Rattle.pmem_recover.specs.declared.change.WordChange.{WordChange}
 use Rattle.pmem_recover.specs.Changes.{change, change_parts}
 use Rattle.pmem_recover.specs.Lanes.{release}
 use Rattle.pmem_recover.specs.LaneStep.{EndsLaneStep, lane_step}
 use Rattle.pmem_recover.specs.Steps.{step_parts}
 
 -- a plan that was empty and got the needed ones of these changes
-pub planned : (words : List ℕ) (lane : ℕ) (changes : List Change) (before left : List Action) → before ≡ [] → left ≡ before ++ plan_of (needed_parts words (change_parts changes))
+pub planned : (words : List ℕ) (lane : ℕ) (changes : List WordChange) (before left : List Action) → before ≡ [] → left ≡ before ++ plan_of (needed_parts words (change_parts changes))
     → lane_mending lane words ≡ change_parts changes → left ≡ plan_of (step_parts lane_mending words lane)
 unfolding step_parts
 planned words lane changes before left empty is same =
     is ∙ ap (λ (xs : List Action). xs ++ plan_of (needed_parts words (change_parts changes))) empty ∙ ap (λ (parts : List Part). plan_of (needed_parts words parts)) (sym same)
 
-module _ (words : List ℕ) (lane : ℕ) (owner mine : Place) (released : Change) (before left : List Action)
+module _ (words : List ℕ) (lane : ℕ) (owner mine : Place) (released : WordChange) (before left : List Action)
     (owner_is : owner.0 ≡ owner_of words lane) (mine_is : mine.0 ≡ lane_op_at lane) (released_is : released ≡ release words (block_of words lane)) (empty : before ≡ []) where
   pub planned-freeing : get_or words (lane_op_at lane) 0 ≡ 2
       → left ≡ before ++ plan_of (needed_parts words (change_parts (change owner.0 0 ∷ released ∷ change mine.0 0 ∷ []))) → left ≡ plan_of (step_parts lane_mending words lane)
   planned-freeing two is = planned words lane (change owner.0 0 ∷ released ∷ change mine.0 0 ∷ []) before left empty is
       (mending-freeing words lane two ∙ sym (ap (λ (p : ℕ). one_store p 0 ∷ one_store released.place.0 released.value ∷ one_store mine.0 0 ∷ []) owner_is
-      ∙ ap (λ (r : Change). one_store (owner_of words lane) 0 ∷ one_store r.place.0 r.value ∷ one_store mine.0 0 ∷ []) released_is
+      ∙ ap (λ (r : WordChange). one_store (owner_of words lane) 0 ∷ one_store r.place.0 r.value ∷ one_store mine.0 0 ∷ []) released_is
       ∙ ap (λ (p : ℕ). one_store (owner_of words lane) 0 ∷ release_part words (block_of words lane) ∷ one_store p 0 ∷ []) mine_is))
 
   pub planned-done : get_or words (lane_op_at lane) 0 ≡ 1 → get_or words owner.0 0 ≡ get_or words (lane_block_at lane) 0
@@ -41,7 +41,7 @@ module _ (words : List ℕ) (lane : ℕ) (owner mine : Place) (released : Change
       → left ≡ before ++ plan_of (needed_parts words (change_parts (released ∷ change mine.0 0 ∷ []))) → left ≡ plan_of (step_parts lane_mending words lane)
   planned-undone one apart is = planned words lane (released ∷ change mine.0 0 ∷ []) before left empty is
       (mending-undone words lane one (λ e. apart (ap (λ (p : ℕ). get_or words p 0) owner_is ∙ e))
-      ∙ sym (ap (λ (r : Change). one_store r.place.0 r.value ∷ one_store mine.0 0 ∷ []) released_is ∙ ap (λ (p : ℕ). release_part words (block_of words lane) ∷ one_store p 0 ∷ []) mine_is))
+      ∙ sym (ap (λ (r : WordChange). one_store r.place.0 r.value ∷ one_store mine.0 0 ∷ []) released_is ∙ ap (λ (p : ℕ). release_part words (block_of words lane) ∷ one_store p 0 ∷ []) mine_is))
 
 -- ── the parts of a lane's step ──
 

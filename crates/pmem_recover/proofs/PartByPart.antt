@@ -7,26 +7,26 @@ use Rattle.std.proofs.Math.Seq.{take-suc}
 use Rattle.pm_model.specs.declared.action.Action.{Action}
 use Rattle.pm_model.specs.Plans.{Part, one_store, unless_empty, part_actions, plan_of, finished}
 use Rattle.pm_model.specs.Needed.{needed_stores, needed_parts}
-use Rattle.pmem_recover.specs.declared.change.Change.{Change}
+use Rattle.pmem_recover.specs.declared.change.WordChange.{WordChange}
 use Rattle.pmem_recover.specs.Changes.{change_part, change_parts}
 use Rattle.pm_model.proofs.NeededStores.{needed-whole}
 use Rattle.pmem_recover.proofs.Changes.{AnyStore, change-stores, if_needed, needed-one, finished-more}
 use Rattle.pmem_recover.proofs.Parts.{parts-one}
 
 -- the first of some parts
-pub needed-first : (words : List ℕ) (part : List Change) (parts : List Part) → needed_parts words (change_part part ∷ parts) ≡ unless_empty (needed_stores words (change_part part)) ++ needed_parts (finished (change_parts part) words) parts
+pub needed-first : (words : List ℕ) (part : List WordChange) (parts : List Part) → needed_parts words (change_part part ∷ parts) ≡ unless_empty (needed_stores words (change_part part)) ++ needed_parts (finished (change_parts part) words) parts
 needed-first words part parts = ap (λ (ws : List ℕ). unless_empty (needed_stores words (change_part part)) ++ needed_parts ws parts) (needed-whole AnyStore words (change_part part) (change-stores part) ∙ sym (parts-one part words))
 
 -- the actions of the changes from one on, each a part of its own
-abbrev pub rest_of : List ℕ → List Change → ℕ → List Action
+abbrev pub rest_of : List ℕ → List WordChange → ℕ → List Action
 rest_of words changes done = plan_of (needed_parts (finished (change_parts (take done changes)) words) (change_parts (drop done changes)))
 
-pub rest-none : (words : List ℕ) (changes : List Change) (done : ℕ) (left : List Action) → length changes ≤ done → left ≡ left ++ rest_of words changes done
+pub rest-none : (words : List ℕ) (changes : List WordChange) (done : ℕ) (left : List Action) → length changes ≤ done → left ≡ left ++ rest_of words changes done
 rest-none words changes done left le = sym (append-nil left)
-    ∙ ap (λ (cs : List Change). left ++ plan_of (needed_parts (finished (change_parts (take done changes)) words) (change_parts cs))) (sym (drop_all done changes le))
+    ∙ ap (λ (cs : List WordChange). left ++ plan_of (needed_parts (finished (change_parts (take done changes)) words) (change_parts cs))) (sym (drop_all done changes le))
 
 -- once the first part was added
-pub rest-first : (words : List ℕ) (changes : List Change) (first : ℕ) (old left : List Action) → left ≡ old ++ plan_of (unless_empty (needed_stores words (change_part (take first changes))))
+pub rest-first : (words : List ℕ) (changes : List WordChange) (first : ℕ) (old left : List Action) → left ≡ old ++ plan_of (unless_empty (needed_stores words (change_part (take first changes))))
     → left ++ rest_of words changes first ≡ old ++ plan_of (needed_parts words (change_part (take first changes) ∷ change_parts (drop first changes)))
 rest-first words changes first old left is =
     let one = unless_empty (needed_stores words (change_part (take first changes))) in
@@ -34,7 +34,7 @@ rest-first words changes first old left is =
     ap (λ (xs : List Action). xs ++ plan_of later) is ∙ append_assoc old (plan_of one) (plan_of later)
     ∙ ap (λ (xs : List Action). old ++ xs) (sym (flat_map-append part_actions one later) ∙ ap plan_of (sym (needed-first words (take first changes) (change_parts (drop first changes)))))
 
-module _ (words : List ℕ) (changes : List Change) (done : ℕ) (d : Change) (lt : done < length changes) where
+module _ (words : List ℕ) (changes : List WordChange) (done : ℕ) (d : WordChange) (lt : done < length changes) where
   taken : take (done + 1) changes ≡ take done changes ++ get_or changes done d ∷ []
   taken = let next : done + 1 ≡ suc done = omega arith in ap (λ (k : ℕ). take k changes) next ∙ take-suc changes done d lt
 
@@ -43,11 +43,11 @@ module _ (words : List ℕ) (changes : List Change) (done : ℕ) (d : Change) (l
   rest-next =
       let made = finished (change_parts (take done changes)) words in
       let c = get_or changes done d in
-      ap (λ (cs : List Change). plan_of (needed_parts made (change_parts cs))) (drop_more changes done d lt)
+      ap (λ (cs : List WordChange). plan_of (needed_parts made (change_parts cs))) (drop_more changes done d lt)
       ∙ ap plan_of (needed-one made c (change_parts (drop (done + 1) changes)))
       ∙ flat_map-append part_actions (if_needed made c) (needed_parts (set made c.place.0 c.value) (change_parts (drop (done + 1) changes)))
       ∙ ap (λ (ws : List ℕ). plan_of (if_needed made c) ++ plan_of (needed_parts ws (change_parts (drop (done + 1) changes))))
-      (sym (ap (λ (cs : List Change). finished (change_parts cs) words) taken ∙ finished-more (take done changes) c words))
+      (sym (ap (λ (cs : List WordChange). finished (change_parts cs) words) taken ∙ finished-more (take done changes) c words))
 
   pub rest-pushed : (left new total : List Action) → left ++ rest_of words changes done ≡ total
       → get_or (finished (change_parts (take done changes)) words) (get_or changes done d).place.0 0 ≢ (get_or changes done d).value

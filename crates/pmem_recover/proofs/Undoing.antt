@@ -19,7 +19,7 @@ use Rattle.image_layout.specs.Tables.{table_count, table_block}
 use Rattle.image_layout.specs.Objects.{is_open, commit_word, entries, entry_places}
 use Rattle.shown_state.specs.LogicalState.{row_bound}
 use Rattle.shown_state.specs.Mending.{undo_mending, undo_entry, undo_parts}
-use Rattle.pmem_recover.specs.declared.change.Change.{Change}
+use Rattle.pmem_recover.specs.declared.change.WordChange.{WordChange}
 use Rattle.pmem_recover.specs.Changes.{change, change_part, change_parts}
 use Rattle.pmem_recover.specs.Filled.{is_filled, places_of}
 use Rattle.pmem_recover.specs.Steps.{step_parts}
@@ -27,8 +27,8 @@ use Rattle.pmem_recover.specs.Undo.{words_at, created_among}
 use Rattle.pmem_recover.proofs.Steps.{step-by}
 
 -- one change more stands in the image
-pub within-push : (size : ℕ) (old new : List Change) (c : Change) → new ≡ old ++ c ∷ [] → c.place.0 < size → All (λ change. change.place.0 < size) old → All (λ change. change.place.0 < size) new
-within-push size old new c is lt all = subst (λ (cs : List Change). All (λ change. change.place.0 < size) cs) (sym is) (All-push (λ change. change.place.0 < size) old c all lt)
+pub within-push : (size : ℕ) (old new : List WordChange) (c : WordChange) → new ≡ old ++ c ∷ [] → c.place.0 < size → All (λ change. change.place.0 < size) old → All (λ change. change.place.0 < size) new
+within-push size old new c is lt all = subst (λ (cs : List WordChange). All (λ change. change.place.0 < size) cs) (sym is) (All-push (λ change. change.place.0 < size) old c all lt)
 
 -- the stamps of one entry more
 pub stamps-next : (words : List ℕ) (stamp : ℕ → Part) (places : List Place) (i : ℕ) (d : Place) (word : ℕ) (before after : Part) → i < length places → word ≡ get_or words (get_or places i d).0 0
@@ -43,10 +43,10 @@ stamps-next words stamp places i d word before after lt word_is was is =
     ∙ sym (ap (flat_map stamp) words_more ∙ flat_map-append stamp (words_at words (take i places)) (get_or words (get_or places i d).0 0 ∷ []))
 
 -- the bound of one table more
-pub bounds-next : (bound : ℕ → Action) (n : ℕ) (place : Place) (value : ℕ) (old : Part) (before after : List Change) → change_part before ≡ old ++ map bound (below n)
+pub bounds-next : (bound : ℕ → Action) (n : ℕ) (place : Place) (value : ℕ) (old : Part) (before after : List WordChange) → change_part before ≡ old ++ map bound (below n)
     → after ≡ before ++ change place.0 value ∷ [] → store place.0 value ≡ bound n → change_part after ≡ old ++ map bound (below (n + 1))
 bounds-next bound n place value old before after was is same =
-    ap change_part is ∙ map-append (λ (c : Change). store c.place.0 c.value) before (change place.0 value ∷ [])
+    ap change_part is ∙ map-append (λ (c : WordChange). store c.place.0 c.value) before (change place.0 value ∷ [])
     ∙ ap (λ (p : Part). p ++ store place.0 value ∷ []) was ∙ append_assoc old (map bound (below n)) (store place.0 value ∷ [])
     ∙ ap (λ (a : Action). old ++ (map bound (below n) ++ a ∷ [])) same
     ∙ ap (λ (p : Part). old ++ p) (sym (map-range_with_len_more bound 0 n n (omega arith)))
@@ -95,7 +95,7 @@ bound-is words among table place block value word bound at is value_is word_is b
     ap (store place) (value_is ∙ ap (λ (w : ℕ). max w bound) word_is ∙ ap (max (get_or words place 0)) bound_is)
     ∙ ap (λ (k : ℕ). store k (max (get_or words k 0) (row_bound (created_among among table)))) here
 
-pub undo-planned : (words : List ℕ) (object first : ℕ) (place : Place) (filled : List Place) (made changes : List Change) (stamps : Part) (before left : List Action)
+pub undo-planned : (words : List ℕ) (object first : ℕ) (place : Place) (filled : List Place) (made changes : List WordChange) (stamps : Part) (before left : List Action)
     → get_or words (state_at object) 0 ≡ 1 → get_or words (commit_word_at object) 0 ≡ 0 → place.0 ≡ state_at object
     → places_of filled ≡ filter (is_filled words) (entry_places words object) → stamps ≡ flat_map (undo_entry words) (words_at words filled)
     → change_part made ≡ stamps ++ map (raised words (words_at words filled)) (below (table_count words))
@@ -104,11 +104,11 @@ pub undo-planned : (words : List ℕ) (object first : ℕ) (place : Place) (fill
 undo-planned words object first place filled made changes stamps before left opened none at places stamps_are made_is first_is changes_are empty is =
     let among = entries-are words object filled places in
     let one : change_part (take first changes) ≡ flat_map (undo_entry words) (entries words object) ++ map (raised words (entries words object)) (below (table_count words)) =
-    ap (λ (cs : List Change). change_part (take first cs)) changes_are ∙ ap (λ (k : ℕ). change_part (take k (made ++ change place.0 0 ∷ []))) first_is
+    ap (λ (cs : List WordChange). change_part (take first cs)) changes_are ∙ ap (λ (k : ℕ). change_part (take k (made ++ change place.0 0 ∷ []))) first_is
     ∙ ap change_part (take-append_seam made (change place.0 0 ∷ [])) ∙ made_is ∙ ap (λ (p : Part). p ++ map (raised words (words_at words filled)) (below (table_count words))) stamps_are
     ∙ ap (λ (ws : List ℕ). flat_map (undo_entry words) ws ++ map (raised words ws) (below (table_count words))) among in
     let two : change_parts (drop first changes) ≡ one_store (state_at object) 0 ∷ [] =
-    ap (λ (cs : List Change). change_parts (drop first cs)) changes_are ∙ ap (λ (k : ℕ). change_parts (drop k (made ++ change place.0 0 ∷ []))) first_is
+    ap (λ (cs : List WordChange). change_parts (drop first cs)) changes_are ∙ ap (λ (k : ℕ). change_parts (drop k (made ++ change place.0 0 ∷ []))) first_is
     ∙ ap change_parts (drop-append_seam made (change place.0 0 ∷ [])) ∙ ap (λ (k : ℕ). one_store k 0 ∷ []) at in
     is ∙ ap (λ (xs : List Action). xs ++ plan_of (needed_parts words (change_part (take first changes) ∷ change_parts (drop first changes)))) empty
     ∙ ap (λ (p : Part). plan_of (needed_parts words (p ∷ change_parts (drop first changes)))) one

@@ -25,7 +25,7 @@ use Rattle.pm_model.proofs.Alone.{length-words_after}
 use Rattle.pm_model.proofs.PlanLaw.{words_after-kept}
 use Rattle.pm_model.proofs.Words.{ext_words}
 use Rattle.shown_state.specs.Mending.{count_columns, version_mending}
-use Rattle.pmem_recover.specs.declared.change.Change.{Change}
+use Rattle.pmem_recover.specs.declared.change.WordChange.{WordChange}
 use Rattle.pmem_recover.specs.Changes.{change, change_part, change_parts}
 use Rattle.pmem_recover.specs.LaneStep.{IsApartImage}
 use Rattle.pmem_recover.specs.Steps.{step_parts}
@@ -36,22 +36,22 @@ use Rattle.pmem_recover.proofs.Steps.{step-by}
 
 -- ── changes as stores ──
 
-pub stored_by : (Q : ℕ → ℕ → Type 0) (changes : List Change) → ((c : Change) → Contains changes c → Q c.place.0 c.value) → Stores Q (change_part changes)
+pub stored_by : (Q : ℕ → ℕ → Type 0) (changes : List WordChange) → ((c : WordChange) → Contains changes c → Q c.place.0 c.value) → Stores Q (change_part changes)
 stored_by Q [] each = tt
 stored_by Q (c ∷ changes) each = (each c (Contains-here c changes), stored_by Q changes (λ d there. each d (Contains-there c d changes there)))
 
-pub stored_parts : (Q : ℕ → ℕ → Type 0) (changes : List Change) → ((c : Change) → Contains changes c → Q c.place.0 c.value) → StoresOfParts Q (change_parts changes)
+pub stored_parts : (Q : ℕ → ℕ → Type 0) (changes : List WordChange) → ((c : WordChange) → Contains changes c → Q c.place.0 c.value) → StoresOfParts Q (change_parts changes)
 stored_parts Q [] each = tt
 stored_parts Q (c ∷ changes) each = ((each c (Contains-here c changes), tt), stored_parts Q changes (λ d there. each d (Contains-there c d changes there)))
 
-pub written : (changes : List Change) (c : Change) → Contains changes c → footprint (change_part changes) c.place.0 ≡ true
+pub written : (changes : List WordChange) (c : WordChange) → Contains changes c → footprint (change_part changes) c.place.0 ≡ true
 written [] c is = absurd (Contains-nil c is)
 written (d ∷ changes) c is = ⊎_elim
-    (λ (here : d ≡ c). or_left (eqb c.place.0 d.place.0) (footprint (change_part changes) c.place.0) (eq-eqb c.place.0 d.place.0 (ap (λ (x : Change). x.place.0) (sym here))))
+    (λ (here : d ≡ c). or_left (eqb c.place.0 d.place.0) (footprint (change_part changes) c.place.0) (eq-eqb c.place.0 d.place.0 (ap (λ (x : WordChange). x.place.0) (sym here))))
     (λ there. or_right (eqb c.place.0 d.place.0) (footprint (change_part changes) c.place.0) (written changes c there))
     (Contains-cons d c changes is)
 
-pub unwritten : (changes : List Change) (w : ℕ) → ((c : Change) → Contains changes c → w ≢ c.place.0) → footprint (change_part changes) w ≡ false
+pub unwritten : (changes : List WordChange) (w : ℕ) → ((c : WordChange) → Contains changes c → w ≢ c.place.0) → footprint (change_part changes) w ≡ false
 unwritten [] w apart = refl
 unwritten (c ∷ changes) w apart =
     or_from (eqb w c.place.0) (footprint (change_part changes) w) (ne_eqb w c.place.0 (apart c (Contains-here c changes)))
@@ -68,7 +68,7 @@ later_read words at word here is other = ne_eqb (get_or words version_at 0) 1 (�
 -- ── the step's parts ──
 
 module _ (words : List ℕ) where
-  abbrev counted : List Change
+  abbrev counted : List WordChange
   counted = map (count_change words) (below (table_count words))
 
   each_part : (tables : List ℕ) → change_parts (map (count_change words) tables) ≡ map (count_columns words) tables
@@ -79,7 +79,7 @@ module _ (words : List ℕ) where
   changes_are first =
       cond-true (is_first_version words) (map (count_columns words) (below (table_count words)) ++ one_store version_at 2 ∷ []) [] first
       ∙ ap (λ (parts : List Part). parts ++ one_store version_at 2 ∷ []) (sym (each_part (below (table_count words))))
-      ∙ sym (map-append (λ (c : Change). one_store c.place.0 c.value) counted (change version_at 2 ∷ []))
+      ∙ sym (map-append (λ (c : WordChange). one_store c.place.0 c.value) counted (change version_at 2 ∷ []))
 
   pub none_later : is_first_version words ≡ false → version_mending words ≡ []
   none_later second = cond-false (is_first_version words) (map (count_columns words) (below (table_count words)) ++ one_store version_at 2 ∷ []) [] second
@@ -106,7 +106,7 @@ module _ (words : List ℕ) where
       ∙ needed-finished AnyStore (change_parts (version_changes words)) words any_stores
 
   -- a change of the step: a table's, or the version's
-  pub change_is : (c : Change) → Contains (version_changes words) c → ((table : ℕ) × (table < table_count words) × (count_change words table ≡ c)) ⊎ (change version_at 2 ≡ c)
+  pub change_is : (c : WordChange) → Contains (version_changes words) c → ((table : ℕ) × (table < table_count words) × (count_change words table ≡ c)) ⊎ (change version_at 2 ≡ c)
   change_is c is = ⊎_elim
       (λ among. let (table, within, here) = Contains-map (count_change words) (below (table_count words)) c among in inl (table, Contains-below (table_count words) table within, here))
       (λ last. ⊎_elim (λ here. inr here) (λ none. absurd (Contains-nil c none)) (Contains-cons (change version_at 2) c [] last))
@@ -117,14 +117,14 @@ module _ (words : List ℕ) where
 
 -- they lie in the image
 pub in_image : (words : List ℕ) → length words % 32768 ≡ 0 → 32768 ≤ length words → Keeps words table_count_rule → Keeps words table_slot_rule
-    → All (λ (c : Change). c.place.0 < length words) (version_changes words)
-in_image words whole some counted slots = all_from (λ (c : Change). c.place.0 < length words) (version_changes words) (λ c is. ⊎_elim
+    → All (λ (c : WordChange). c.place.0 < length words) (version_changes words)
+in_image words whole some counted slots = all_from (λ (c : WordChange). c.place.0 < length words) (version_changes words) (λ c is. ⊎_elim
     (λ one. let (table, lt, here) = one in
     let points = one_table words table counted slots lt in
     let fits = table_in_image words (get_or words (table_slot_at table) 0) whole points in
     let least = points.least in
-    subst (λ (d : Change). d.place.0 < length words) here (omega (arith, fits, least)))
-    (λ last. subst (λ (d : Change). d.place.0 < length words) last (omega (arith, some)))
+    subst (λ (d : WordChange). d.place.0 < length words) here (omega (arith, fits, least)))
+    (λ last. subst (λ (d : WordChange). d.place.0 < length words) last (omega (arith, some)))
     (change_is words c is))
 
 -- where the version is 1, something is to be stored
@@ -185,22 +185,22 @@ module _ (base : List ℕ) (asked : IsApartImage base) where
   beside_kept w beside =
       ap (λ (ws : List ℕ). get_or ws w 0) (parts-one (version_changes base) base)
       ∙ words_after-kept (change_part (version_changes base)) base w (unwritten (version_changes base) w (λ c is same. ⊎_elim
-      (λ one. let (table, lt, here) = one in beside.no_count table lt (same ∙ ap (λ (d : Change). d.place.0) (sym here)))
-      (λ last. beside.no_version (same ∙ ap (λ (d : Change). d.place.0) (sym last)))
+      (λ one. let (table, lt, here) = one in beside.no_count table lt (same ∙ ap (λ (d : WordChange). d.place.0) (sym here)))
+      (λ last. beside.no_version (same ∙ ap (λ (d : WordChange). d.place.0) (sym last)))
       (change_is base c is)))
 
   -- the word of a table that counts the columns in its block has its count
   abbrev HasCount : ℕ → ℕ → Type 0
   HasCount w value = (table : ℕ) → table < table_count base → w ≡ block table + 6 → value ≡ column_count base (block table)
 
-  each_counts : (c : Change) → Contains (version_changes base) c → HasCount c.place.0 c.value
+  each_counts : (c : WordChange) → Contains (version_changes base) c → HasCount c.place.0 c.value
   each_counts c is table lt same = ⊎_elim
       (λ one. let (other, published, here) = one in
-      let place : block other + 6 ≡ c.place.0 = ap (λ (d : Change). d.place.0) here in
-      let value : column_count base (block other) ≡ c.value = ap (λ (d : Change). d.value) here in
+      let place : block other + 6 ≡ c.place.0 = ap (λ (d : WordChange). d.place.0) here in
+      let value : column_count base (block other) ≡ c.value = ap (λ (d : WordChange). d.value) here in
       let blocks : block other ≡ block table = omega (arith, place, same) in
       sym value ∙ ap (column_count base) blocks)
-      (λ last. absurd (let place : version_at ≡ c.place.0 = ap (λ (d : Change). d.place.0) last in let high = behind table lt in omega (arith, place, same, high)))
+      (λ last. absurd (let place : version_at ≡ c.place.0 = ap (λ (d : WordChange). d.place.0) last in let high = behind table lt in omega (arith, place, same, high)))
       (change_is base c is)
 
   count_stored : (table : ℕ) → table < table_count base → get_or (upgraded base) (block table + 6) 0 ≡ column_count base (block table)
@@ -260,14 +260,14 @@ module _ (base : List ℕ) (asked : IsApartImage base) where
       changes_same : version_changes now ≡ version_changes base
       changes_same =
           ap (λ (n : ℕ). map (count_change now) (below n) ++ change version_at 2 ∷ []) (count_kept now stage.size beside_stage)
-          ∙ ap (λ (cs : List Change). cs ++ change version_at 2 ∷ []) (map_same (count_change now) (count_change base) 0 (table_count base) (λ k le lt.
+          ∙ ap (λ (cs : List WordChange). cs ++ change version_at 2 ∷ []) (map_same (count_change now) (count_change base) 0 (table_count base) (λ k le lt.
           let published : k < table_count base = omega (arith, lt) in
           ap (λ (b : ℕ). change (b + 6) (column_count now b)) (block_kept now stage.size beside_stage k published)
           ∙ ap (change (block k + 6)) (columns_kept now stage.size beside_stage k published)))
 
       stage_again : upgraded now ≡ upgraded base
       stage_again =
-          ap (λ (cs : List Change). finished (change_parts cs) now) changes_same
+          ap (λ (cs : List WordChange). finished (change_parts cs) now) changes_same
           ∙ parts-one (version_changes base) now
           ∙ ext_words (words_after part now) (words_after part base) (length-words_after part now ∙ stage.size ∙ sym (length-words_after part base)) each
           ∙ sym (parts-one (version_changes base) base)
@@ -317,12 +317,12 @@ module _ (base : List ℕ) (asked : IsApartImage base) where
     -- ── each cut ──
 
     -- a change of another word than the version, to what stands there at the end
-    record IsOwn (c : Change) : Type 0 where
+    record IsOwn (c : WordChange) : Type 0 where
       pub apart : c.place.0 ≢ version_at
       pub stands : get_or (upgraded base) c.place.0 0 ≡ c.value
       pub inside : c.place.0 < length base
 
-    next_stage : (now : List ℕ) (c : Change) → IsOwn c → IsStage now → IsStage (set now c.place.0 c.value)
+    next_stage : (now : List ℕ) (c : WordChange) → IsOwn c → IsStage now → IsStage (set now c.place.0 c.value)
     next_stage now c own stage = record {
       size = length-set now c.place.0 c.value ∙ stage.size;
       each = λ w. ⊎_elim
@@ -333,7 +333,7 @@ module _ (base : List ℕ) (asked : IsApartImage base) where
       version = get_or-set_other now c.place.0 version_at c.value 0 (λ same. own.apart (sym same)) ∙ stage.version;
     }
 
-    stage_cuts : (changes : List Change) (now : List ℕ) → ((c : Change) → Contains changes c → IsOwn c) → IsStage now → finished (change_parts (changes ++ change version_at 2 ∷ [])) now ≡ upgraded base
+    stage_cuts : (changes : List WordChange) (now : List ℕ) → ((c : WordChange) → Contains changes c → IsOwn c) → IsStage now → finished (change_parts (changes ++ change version_at 2 ∷ [])) now ≡ upgraded base
         → EachCut (ShowsVersionStep base) (change_parts (changes ++ change version_at 2 ∷ [])) now
     stage_cuts [] now own stage ends =
         let last = subst (ShowsVersionStep base) (sym ends) end_shows in
@@ -344,7 +344,7 @@ module _ (base : List ℕ) (asked : IsApartImage base) where
           stage_cuts changes (set now c.place.0 c.value) (λ d there. own d (Contains-there c d changes there)) next ends,
         )
 
-    own_change : (c : Change) → Contains (counted base) c → IsOwn c
+    own_change : (c : WordChange) → Contains (counted base) c → IsOwn c
     own_change c is =
         let (table, within_tables, here) = Contains-map (count_change base) (below (table_count base)) c is in
         let lt = Contains-below (table_count base) table within_tables in
@@ -360,7 +360,7 @@ module _ (base : List ℕ) (asked : IsApartImage base) where
     first_plan : IsPlan (length base) (step_parts (λ n. version_mending) base 0)
     first_plan = subst (IsPlan (length base)) (sym (parts_are base first))
         (needed-plan (length base) (change_parts (version_changes base)) base (stored_parts (λ place value. place < length base) (version_changes base)
-        (λ c is. All-contains (λ (d : Change). d.place.0 < length base) (version_changes base) c (in_image base asked.segments asked.some rules.table_count rules.table_slots) is)))
+        (λ c is. All-contains (λ (d : WordChange). d.place.0 < length base) (version_changes base) c (in_image base asked.segments asked.some rules.table_count rules.table_slots) is)))
 
     first_end : EndsVersionStep base (finished (step_parts (λ n. version_mending) base 0) base)
     first_end =

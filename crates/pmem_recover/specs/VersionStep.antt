@@ -7,7 +7,7 @@ use Rattle.image_layout.specs.Tables.{column_count, columns_of, table_block, tab
 use Rattle.pm_model.specs.Changes.{Change}
 use Rattle.pm_model.specs.Needed.{after_mending}
 use Rattle.shown_state.specs.Mending.{version_mending}
-use Rattle.pmem_recover.specs.declared.change.Change.{Change as WordChange}
+use Rattle.pmem_recover.specs.declared.change.WordChange.{WordChange}
 use Rattle.pmem_recover.specs.Changes.{change}
 use Rattle.pmem_recover.specs.LaneStep.{IsApartImage}
 use Rattle.pmem_recover.specs.Steps.{step_parts}

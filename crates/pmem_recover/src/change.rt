@@ -11,13 +11,13 @@ pub(crate) const CHANGE_ACTIONS: u32 = 3;
 
 /// The word at a place gets a value.
 #[derive(Clone, Copy)]
-pub struct Change {
+pub struct WordChange {
     pub place: Place,
     pub value: u64,
 }
 
 /// Adds a part for each of these changes that is needed: it changes its word as those before it leave it.
-pub(crate) fn push_needed<M: Memory>(plan: &mut Plan, mem: &M, changes: &[Change])
+pub(crate) fn push_needed<M: Memory>(plan: &mut Plan, mem: &M, changes: &[WordChange])
     requires room { 3 * length changes.now ≤ plan.old.spare }
     requires in_image { All (λ change. change.place.0 < length (M.device mem.now).cached) changes.now }
     ensures left { plan.new.left ≡ plan.old.left
@@ -33,7 +33,7 @@ pub(crate) fn push_needed<M: Memory>(plan: &mut Plan, mem: &M, changes: &[Change
 }
 
 /// The word at a place once these changes were made.
-pub(crate) fn word_after<M: Memory>(mem: &M, changes: &[Change], at: Place) -> u64
+pub(crate) fn word_after<M: Memory>(mem: &M, changes: &[WordChange], at: Place) -> u64
     requires { at.0 < length (M.device mem.now).cached }
     ensures { result ≡ slice_index (finished (change_parts changes.now) (M.device mem.now).cached) at.0 }
 {

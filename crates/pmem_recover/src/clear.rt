@@ -7,7 +7,7 @@ ghost use Rattle.shown_state.specs.Mending.{clear_mending};
 ghost use Rattle.pmem_recover.specs.Changes.{change};
 ghost use Rattle.pmem_recover.specs.Steps.{step_parts, IsNext, NoneFrom};
 
-use crate::change::Change;
+use crate::change::WordChange;
 use crate::entries::filled_entries;
 use crate::part::push_part;
 use pm_model::{Memory, NoMemory, OBJECTS, Place, Plan, commit_word};
@@ -52,18 +52,18 @@ fn plan_clear<M: Memory>(alloc: Global, mem: &M, object: u8) -> Result<Plan, NoM
 }
 
 // The changes that make the words at these places 0, and then the word at the last place.
-fn zeros(alloc: Global, places: &[Place], last: Place) -> Result<Vec<Change>, NoMemory>
+fn zeros(alloc: Global, places: &[Place], last: Place) -> Result<Vec<WordChange>, NoMemory>
     requires { length places.now < 2 ^ 30 }
     ensures { IfOk result (λ part. part.items ≡ map (λ at. change at.0 0) places.now ++ change last.0 0 ∷ []) }
 {
     let mut part = Vec::with_capacity(alloc, places.len() + 1)?;
     for at in places {
-        part.push_reserved(Change {
+        part.push_reserved(WordChange {
             place: *at,
             value: 0,
         });
     }
-    part.push_reserved(Change {
+    part.push_reserved(WordChange {
         place: last,
         value: 0,
     });

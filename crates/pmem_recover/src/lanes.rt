@@ -10,7 +10,7 @@ ghost use Rattle.shown_state.specs.Mending.{lane_mending};
 ghost use Rattle.pmem_recover.specs.Lanes.{release as released_change};
 ghost use Rattle.pmem_recover.specs.Steps.{step_parts, IsNext, NoneFrom};
 
-use crate::change::{CHANGE_ACTIONS, Change, push_needed};
+use crate::change::{CHANGE_ACTIONS, WordChange, push_needed};
 use crate::layout::{ALLOCATING, FIRST_SLOT, IDLE, SMALL_PAGE};
 use heap_small::{Class, class_words, without};
 use pm_model::{
@@ -53,14 +53,14 @@ fn plan_lane<M: Memory>(alloc: Global, mem: &M, lane: u8) -> Result<Plan, NoMemo
     let owner = named_place(mem, lane_dest(lane));
     let block = named_place(mem, lane_block(lane));
     let release = release(mem, block);
-    let idle = Change {
+    let idle = WordChange {
         place: lane_op(lane),
         value: IDLE,
     };
     let mut plan = Plan::with_room(alloc, 3 * CHANGE_ACTIONS)?;
     // The lane is idle last: until then a cut of the step is mended to the same words.
     if mem.load(lane_op(lane)) != ALLOCATING {
-        let disown = Change {
+        let disown = WordChange {
             place: owner,
             value: 0,
         };
@@ -74,7 +74,7 @@ fn plan_lane<M: Memory>(alloc: Global, mem: &M, lane: u8) -> Result<Plan, NoMemo
 }
 
 /// The change that clears the mark of a block.
-pub(crate) fn release<M: Memory>(mem: &M, block: Place) -> Change
+pub(crate) fn release<M: Memory>(mem: &M, block: Place) -> WordChange
     requires in_image { block.0 < length (M.device mem.now).cached }
     requires slot { block.0 % 512 ≢ 0 → IsTrue (is_slot (M.device mem.now).cached block.0) }
     ensures change { result ≡ released_change (M.device mem.now).cached block.0 }
@@ -83,7 +83,7 @@ pub(crate) fn release<M: Memory>(mem: &M, block: Place) -> Change
     let page = block.0 / PAGE_WORDS;
     let head = descriptor(Page(page as u16));
     if block.0 % PAGE_WORDS == 0 {
-        return Change {
+        return WordChange {
             place: head,
             value: 0,
         };
@@ -91,7 +91,7 @@ pub(crate) fn release<M: Memory>(mem: &M, block: Place) -> Change
     let class = Class::new((mem.load(head) - SMALL_PAGE) as u8);
     let slot = (block.0 % PAGE_WORDS - FIRST_SLOT) / class_words(class);
     let bitmap = Place(PAGE_WORDS * page);
-    Change {
+    WordChange {
         place: bitmap,
         value: without(mem.load(bitmap), slot as u8),
     }

@@ -4,7 +4,7 @@ ghost use Rattle.pm_model.specs.Plans.{part_actions, plan_of, unless_empty, word
 ghost use Rattle.pm_model.specs.Needed.{needed_stores, needed_parts};
 ghost use Rattle.pmem_recover.specs.Changes.{change_part, change_parts};
 
-use crate::change::{Change, word_after};
+use crate::change::{WordChange, word_after};
 use pm_model::{Action, Memory, NoMemory, Plan};
 use std::alloc::Global;
 use std::collections::BTreeSet;
@@ -15,8 +15,8 @@ pub(crate) fn push_part<M: Memory>(
     alloc: Global,
     plan: &mut Plan,
     mem: &M,
-    earlier: &[Change],
-    part: &[Change],
+    earlier: &[WordChange],
+    part: &[WordChange],
 ) -> Result<(), NoMemory>
     requires few { length part.now < 2 ^ 31 }
     requires room { 2 * length part.now < plan.old.spare }
@@ -41,7 +41,7 @@ pub(crate) fn push_parts<M: Memory>(
     alloc: Global,
     plan: &mut Plan,
     mem: &M,
-    changes: &[Change],
+    changes: &[WordChange],
     first: usize,
 ) -> Result<(), NoMemory>
     requires first { first ≤ length changes.now }
@@ -68,9 +68,9 @@ pub(crate) fn push_parts<M: Memory>(
 fn needed<M: Memory>(
     alloc: Global,
     mem: &M,
-    earlier: &[Change],
-    part: &[Change],
-) -> Result<Vec<Change>, NoMemory>
+    earlier: &[WordChange],
+    part: &[WordChange],
+) -> Result<Vec<WordChange>, NoMemory>
     requires in_image { All (λ change. change.place.0 < length (M.device mem.now).cached) part.now }
     ensures needed { IfOk result (λ kept.
         change_part kept.items ≡ needed_stores (words_after (change_part earlier.now) (M.device mem.now).cached)
@@ -91,7 +91,7 @@ fn needed<M: Memory>(
 }
 
 // Adds the stores of these changes.
-fn push_stores(plan: &mut Plan, changes: &[Change])
+fn push_stores(plan: &mut Plan, changes: &[WordChange])
     requires { length changes.now ≤ plan.old.spare }
     ensures left { plan.new.left ≡ plan.old.left ++ change_part changes.now }
     ensures spare { plan.new.spare + length changes.now ≡ plan.old.spare }

@@ -8,7 +8,7 @@ ghost use Rattle.image_layout.specs.EntryRules.{table_slot_rule};
 ghost use Rattle.shown_state.specs.Mending.{free_block, slot_mending};
 ghost use Rattle.pmem_recover.specs.Steps.{step_parts, IsNext, NoneFrom};
 
-use crate::change::Change;
+use crate::change::WordChange;
 use crate::lanes::release;
 use crate::layout::{FREEING, IDLE};
 use crate::part::push_parts;
@@ -91,9 +91,9 @@ pub(crate) fn plan_freeing<M: Memory>(alloc: Global, mem: &M, at: Place) -> Resu
     Ok(plan)
 }
 
-fn store(place: Place, value: u64) -> Change
+fn store(place: Place, value: u64) -> WordChange
     ensures place { result.place ≡ place }
     ensures value { result.value ≡ value }
 {
-    Change { place, value }
+    WordChange { place, value }
 }

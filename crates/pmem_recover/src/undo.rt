@@ -12,7 +12,7 @@ ghost use Rattle.pmem_recover.specs.Changes.{change_part};
 ghost use Rattle.pmem_recover.specs.Steps.{step_parts, IsNext, NoneFrom};
 ghost use Rattle.pmem_recover.specs.Undo.{KeepsUndoRules, bounds_part, created_among, words_at};
 
-use crate::change::Change;
+use crate::change::WordChange;
 use crate::entries::filled_entries;
 use crate::part::push_parts;
 use pm_model::{
@@ -62,7 +62,7 @@ fn plan_undo<M: Memory>(alloc: Global, mem: &M, object: u8) -> Result<Plan, NoMe
     push_stamps(mem, &entries, &mut changes);
     push_bounds(mem, &entries, &mut changes);
     let first = changes.len();
-    changes.push_reserved(Change {
+    changes.push_reserved(WordChange {
         place: object_state(object),
         value: CLOSED,
     });
@@ -73,7 +73,7 @@ fn plan_undo<M: Memory>(alloc: Global, mem: &M, object: u8) -> Result<Plan, NoMe
 }
 
 // Adds the changes that take back the stamps of these entries.
-fn push_stamps<M: Memory>(mem: &M, entries: &[Place], changes: &mut Vec<Change>)
+fn push_stamps<M: Memory>(mem: &M, entries: &[Place], changes: &mut Vec<WordChange>)
     requires rules { KeepsUndoRules (M.device mem.now).cached }
     requires in_image { All (λ at. at.0 < length (M.device mem.now).cached) entries.now }
     requires each { All (λ at. IsTrue (is_entry (M.device mem.now).cached (slice_index (M.device mem.now).cached at.0)))
@@ -92,7 +92,7 @@ fn push_stamps<M: Memory>(mem: &M, entries: &[Place], changes: &mut Vec<Change>)
 }
 
 // Adds the change that takes back the stamp of an entry's row, where it isn't that of a commit.
-fn push_stamp<M: Memory>(mem: &M, word: u64, changes: &mut Vec<Change>)
+fn push_stamp<M: Memory>(mem: &M, word: u64, changes: &mut Vec<WordChange>)
     requires rules { KeepsUndoRules (M.device mem.now).cached }
     requires entry { IsTrue (is_entry (M.device mem.now).cached word) }
     requires room { vec_len changes.old < vec_capacity changes.old }
@@ -111,7 +111,7 @@ fn push_stamp<M: Memory>(mem: &M, word: u64, changes: &mut Vec<Change>)
             let place = place_of(mem, created_header(table), entry.row);
             let stamp = mem.load(place);
             if stamp == 0 || last < stamp {
-                changes.push_reserved(Change {
+                changes.push_reserved(WordChange {
                     place,
                     value: NO_COMMIT,
                 });
@@ -120,14 +120,14 @@ fn push_stamp<M: Memory>(mem: &M, word: u64, changes: &mut Vec<Change>)
         EntryKind::Ended => {
             let place = place_of(mem, ended_header(table), entry.row);
             if last < mem.load(place) {
-                changes.push_reserved(Change { place, value: 0 });
+                changes.push_reserved(WordChange { place, value: 0 });
             }
         }
     }
 }
 
 // Adds the changes that raise the bounds of the tables above the rows that these entries created.
-fn push_bounds<M: Memory>(mem: &M, entries: &[Place], changes: &mut Vec<Change>)
+fn push_bounds<M: Memory>(mem: &M, entries: &[Place], changes: &mut Vec<WordChange>)
     requires rules { KeepsUndoRules (M.device mem.now).cached }
     requires in_image { All (λ at. at.0 < length (M.device mem.now).cached) entries.now }
     requires within { All (λ change. change.place.0 < length (M.device mem.now).cached) changes.old.items }
@@ -141,7 +141,7 @@ fn push_bounds<M: Memory>(mem: &M, entries: &[Place], changes: &mut Vec<Change>)
     for table in 0..mem.load(table_count()) {
         let place = high(named_place(mem, table_slot(table as u8)));
         let bound = row_bound(mem, entries, table);
-        changes.push_reserved(Change {
+        changes.push_reserved(WordChange {
             place,
             value: mem.load(place).max(bound),
         });

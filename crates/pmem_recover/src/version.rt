@@ -10,7 +10,7 @@ ghost use Rattle.pmem_recover.specs.Steps.{step_parts, IsNext, NoneFrom};
 ghost use Rattle.pmem_recover.specs.Changes.{change};
 ghost use Rattle.pmem_recover.specs.VersionStep.{count_change, version_changes};
 
-use crate::change::{CHANGE_ACTIONS, Change, push_needed};
+use crate::change::{CHANGE_ACTIONS, WordChange, push_needed};
 use image_layout::inner_columns;
 use pm_model::{
     FIRST_VERSION, Memory, NoMemory, Plan, TABLES, VERSION, column_count, named_place, table_count,
@@ -60,7 +60,7 @@ fn plan_version<M: Memory>(alloc: Global, mem: &M) -> Result<Plan, NoMemory>
 }
 
 // The words that it changes, in order. The version comes last: until then a cut of the step is mended to the same words.
-fn version_changes_of<M: Memory>(alloc: Global, mem: &M) -> Result<Vec<Change>, NoMemory>
+fn version_changes_of<M: Memory>(alloc: Global, mem: &M) -> Result<Vec<WordChange>, NoMemory>
     requires tables { Keeps (M.device mem.now).cached table_count_rule }
     requires slots { Keeps (M.device mem.now).cached table_slot_rule }
     ensures changes { IfOk result (λ changes. changes.items ≡ version_changes (M.device mem.now).cached) }
@@ -78,17 +78,17 @@ fn version_changes_of<M: Memory>(alloc: Global, mem: &M) -> Result<Vec<Change>, 
 }
 
 // The version is 2.
-fn latest_version() -> Change
+fn latest_version() -> WordChange
     ensures { result ≡ change version_at 2 }
 {
-    Change {
+    WordChange {
         place: version(),
         value: VERSION,
     }
 }
 
 // A table's block says how many columns stand in it: all that the table has.
-fn count_columns<M: Memory>(mem: &M, table: u8) -> Change
+fn count_columns<M: Memory>(mem: &M, table: u8) -> WordChange
     requires tables { Keeps (M.device mem.now).cached table_count_rule }
     requires slots { Keeps (M.device mem.now).cached table_slot_rule }
     requires published { table < count_of_tables (M.device mem.now).cached }
@@ -96,7 +96,7 @@ fn count_columns<M: Memory>(mem: &M, table: u8) -> Change
     ensures in_image { result.place.0 < length (M.device mem.now).cached }
 {
     let block = named_place(mem, table_slot(table));
-    Change {
+    WordChange {
         place: inner_columns(block),
         value: mem.load(column_count(block)),
     }

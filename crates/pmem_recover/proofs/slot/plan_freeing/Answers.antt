@@ -1,7 +1,7 @@
 use Rattle.std.proofs.Common.{◌≡◌, ℕ, inl, inr, [], ◌∷◌, get_or, sym, ◌∙◌, ap, arith}
 use Rattle.std.proofs.lemmas.Bool.{eq-eqb, eqb-true, eqb-false, not-true, not-false, both_ways}
 use Rattle.image_layout.specs.declared.place.Place.{Place}
-use Rattle.pmem_recover.specs.declared.change.Change.{Change}
+use Rattle.pmem_recover.specs.declared.change.WordChange.{WordChange}
 use Rattle.image_layout.specs.Fixed.{descriptor_at, lane_op_at, lane_dest_at, lane_block_at}
 use Rattle.image_layout.specs.Pointer.{pointer_word}
 use Rattle.image_layout.specs.Places.{page_of, place_in}
@@ -16,7 +16,7 @@ parts_are : (g : given.Over) (c : goal.In_ok-push_parts g) → free_block (g.M.M
 parts_are g c =
     let words = (g.M.Memory.device c.args.mem.now).cached in
     let block_is = c.named_place-block.ensures.place in
-    let value_is : c.release-released.result.value ≡ (release words (place_in (get_or words c.args.at.0 0))).value = ap (λ (r : Change). r.value) c.release-released.ensures.change ∙ ap (λ (b : ℕ). (release words b).value) block_is in
+    let value_is : c.release-released.result.value ≡ (release words (place_in (get_or words c.args.at.0 0))).value = ap (λ (r : WordChange). r.value) c.release-released.ensures.change ∙ ap (λ (b : ℕ). (release words b).value) block_is in
     elim c.if-is_page_left.branch [
       | then-is_page_left left ↦ elim c.if-block-eq0.branch [
         | then-block-eq0 w ↦ first-six words c.args.at.0 c.requires.pointer c.if-is_page_left.count left.count-is (inl (omega (arith, w.if-block-eq0.true, block_is)))

@@ -11,7 +11,7 @@ use Rattle.image_layout.specs.Tables.{table_count}
 use Rattle.image_layout.specs.Objects.{is_open, entry_places}
 use Rattle.image_layout.specs.EntryRules.{is_entry}
 use Rattle.shown_state.specs.Mending.{undo_entry}
-use Rattle.pmem_recover.specs.declared.change.Change.{Change}
+use Rattle.pmem_recover.specs.declared.change.WordChange.{WordChange}
 use Rattle.pmem_recover.specs.Changes.{change, change_part}
 use Rattle.pmem_recover.specs.Undo.{words_at}
 use Rattle.pmem_recover.proofs.Clearing.{filled-within}
@@ -52,7 +52,7 @@ pub push_parts-requires-clause-in_image : goal.push_parts-requires-clause-in_ima
 push_parts-requires-clause-in_image g c =
     let words = (g.M.Memory.device c.args.mem.now).cached in
     let at : c.object_state-2.result.0 ≡ state_at c.args.object = c.object_state-2.ensures in
-    subst (λ (cs : List Change). All (λ change. change.place.0 < length words) cs) (sym c.deref-3.ensures.value)
+    subst (λ (cs : List WordChange). All (λ change. change.place.0 < length words) cs) (sym c.deref-3.ensures.value)
     (within-push (length words) c.push_bounds.new.changes.items c.push_reserved.new.self.items (change c.object_state-2.result.0 0) c.push_reserved.ensures.items
     (omega (arith, at, c.requires.object, (g.met.M.Memory.whole c.args.mem.now).one_or_more)) c.push_bounds.ensures.within)
 

@@ -5,7 +5,7 @@ use Rattle.std.proofs.lemmas.List.FromFn.{length-range_with_len, map-range_with_
 use Rattle.image_layout.specs.Places.{below}
 use Rattle.image_layout.specs.Tables.{table_count}
 use Rattle.image_layout.proofs.TableSlots.{few_tables}
-use Rattle.pmem_recover.specs.declared.change.Change.{Change}
+use Rattle.pmem_recover.specs.declared.change.WordChange.{WordChange}
 use Rattle.pmem_recover.specs.VersionStep.{count_change, version_changes}
 use Rattle.pmem_recover.proofs.VersionChanges.{in_image}
 use Rattle.pmem_recover.proofs.version.version_changes_of.Goals as goal
@@ -48,8 +48,8 @@ loop-table-preserved g c =
     let words : List ℕ = (g.M.Memory.device c.args.mem.now).cached in
     record {
       changes = c.push_reserved.ensures.items
-          ∙ ap (λ (cs : List Change). cs ++ c.count_columns.result ∷ []) c.loop-table.invariant.changes
-          ∙ ap (λ (x : Change). map (count_change words) (below c.loop-table.table) ++ x ∷ []) c.count_columns.ensures.change
+          ∙ ap (λ (cs : List WordChange). cs ++ c.count_columns.result ∷ []) c.loop-table.invariant.changes
+          ∙ ap (λ (x : WordChange). map (count_change words) (below c.loop-table.table) ++ x ∷ []) c.count_columns.ensures.change
           ∙ sym (map-range_with_len_more (count_change words) 0 c.loop-table.table c.loop-table.table (omega arith));
       len = omega (arith, c.push_reserved.ensures.len, c.loop-table.invariant.len);
       room = omega (arith, c.push_reserved.ensures.capacity, c.loop-table.invariant.room);
@@ -63,16 +63,16 @@ push_reserved-requires-2 g c =
     omega (arith, few, count, c.loop-table.auto.table-end, c.loop-table.invariant.len, c.loop-table.invariant.room)
 
 -- what they are at the end
-module _ (words : List ℕ) (table word at : ℕ) (last : Change) (before after : List Change) (here : at ≡ 515) (is : word ≡ get_or words at 0) (ends : table ≡ word)
+module _ (words : List ℕ) (table word at : ℕ) (last : WordChange) (before after : List WordChange) (here : at ≡ 515) (is : word ≡ get_or words at 0) (ends : table ≡ word)
     (so_far : before ≡ map (count_change words) (below table)) (more : after ≡ before ++ last ∷ []) where
   count : table ≡ table_count words
   count = ends ∙ count_read words at word here is
 
   all_changes : last ≡ record { place = record { 0 = 513 }; value = 2 } → after ≡ version_changes words
   all_changes version =
-      more ∙ ap (λ (cs : List Change). cs ++ last ∷ []) so_far
+      more ∙ ap (λ (cs : List WordChange). cs ++ last ∷ []) so_far
       ∙ ap (λ (k : ℕ). map (count_change words) (below k) ++ last ∷ []) count
-      ∙ ap (λ (x : Change). map (count_change words) (below (table_count words)) ++ x ∷ []) version
+      ∙ ap (λ (x : WordChange). map (count_change words) (below (table_count words)) ++ x ∷ []) version
 
 pub returns-clause-changes : goal.returns-clause-changes
 returns-clause-changes g c =
@@ -90,7 +90,7 @@ few_changes words few =
 pub returns-clause-few : goal.returns-clause-few
 returns-clause-few g c =
     let words : List ℕ = (g.M.Memory.device c.args.mem.now).cached in
-    let size = ap (length {A = Change}) (returns-clause-changes g c) in
+    let size = ap (length {A = WordChange}) (returns-clause-changes g c) in
     let few = few_changes words (few_tables words c.requires.tables) in
     omega (arith, size, few)
 
@@ -98,5 +98,5 @@ pub returns-clause-in_image : goal.returns-clause-in_image
 returns-clause-in_image g c =
     let words : List ℕ = (g.M.Memory.device c.args.mem.now).cached in
     let whole = g.met.M.Memory.whole c.args.mem.now in
-    subst (λ (cs : List Change). All (λ (d : Change). d.place.0 < length words) cs) (sym (returns-clause-changes g c))
+    subst (λ (cs : List WordChange). All (λ (d : WordChange). d.place.0 < length words) cs) (sym (returns-clause-changes g c))
     (in_image words whole.segments whole.one_or_more c.requires.tables c.requires.slots)
