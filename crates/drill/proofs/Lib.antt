@@ -1,6 +1,7 @@
 pub mod Telling
 pub mod Choices
 pub mod Bounds
+pub mod First
 pub mod Moves
 pub mod Following
 pub mod Waits

@@ -7,9 +7,10 @@ use Rattle.drill.specs.declared.schedule.Standing.TheVariants.{Blocked, Done, Re
 use Rattle.drill.specs.declared.schedule.Move.{Move}
 use Rattle.drill.specs.declared.schedule.Move.TheVariants.{Over, Start, Step, Stuck}
 use Rattle.drill.specs.Draws.{draw}
-use Rattle.drill.specs.Laws.{Fits, WaitsFor, has_call}
+use Rattle.drill.specs.Laws.{Fits, GoesFirst, WaitsFor, has_call}
 use Rattle.drill.proofs.Circles.{never-stuck}
-use Rattle.drill.specs.Schedule.{first_going, is_done, move_at, move_of, picked, standing_of, start_or, step_behind, step_or, upwards}
+use Rattle.drill.proofs.First.{first-found}
+use Rattle.drill.specs.Schedule.{first_going, is_done, move_at, move_of, picked, standing_of, start_or, step_behind, step_or}
 
 -- what a move behind a session is: a step at the end of its holders, or none
 abbrev Behind : List Standing → ℕ → Move → Type 0
@@ -39,7 +40,7 @@ steps-behind sessions (suc count) session =
 
 -- what is done behind a session with a call in flight
 call-fits : (sessions : List Standing) (from session : ℕ) (done : Move) → length sessions ≡ 4
-    → first_going sessions 4 from ≡ Some session → has_call (standing_of sessions session) ≡ true
+    → GoesFirst sessions from session → has_call (standing_of sessions session) ≡ true
     → step_behind sessions 4 session ≡ done → Behind sessions session done → Fits sessions from done
 call-fits sessions from session (Step last) four found called is steps = (session, found, steps.0, steps.1, steps.2)
 call-fits sessions from session (Start other) four found called is steps = absurd steps
@@ -48,7 +49,7 @@ call-fits sessions from session Stuck four found called is steps =
 call-fits sessions from session Over four found called is steps = absurd steps
 
 going-fits : (sessions : List Standing) (from session : ℕ) (held : Standing) → length sessions ≡ 4
-    → first_going sessions 4 from ≡ Some session → standing_of sessions session ≡ held → is_done held ≡ false
+    → GoesFirst sessions from session → standing_of sessions session ≡ held → is_done held ≡ false
     → Fits sessions from (start_or held session (step_behind sessions 4 session))
 going-fits sessions from session Done four found is going = absurd (let e : true ≡ false = going in cc)
 going-fits sessions from session Ready four found is going = (found, is)
@@ -56,18 +57,6 @@ going-fits sessions from session Running four found is going =
     call-fits sessions from session (step_behind sessions 4 session) four found (rw is refl) refl (steps-behind sessions 4 session)
 going-fits sessions from session (Blocked holder) four found is going =
     call-fits sessions from session (step_behind sessions 4 session) four found (rw is refl) refl (steps-behind sessions 4 session)
-
--- the session that is found is not done
-found-goes : (sessions : List Standing) (count from session : ℕ) → first_going sessions count from ≡ Some session → is_done (standing_of sessions session) ≡ false
-found-goes sessions zero from session found = absurd (let e : None ≡ Some session = found in cc)
-found-goes sessions (suc count) from session found =
-    elim (cases_Bool (is_done (standing_of sessions from))) [
-      | inl done ↦ found-goes sessions count (upwards from) session (rw done at found)
-      | inr going ↦
-          let e : Some from ≡ Some session = rw going at found in
-          let same : from ≡ session = cc in
-          rw (← same) going
-    ]
 
 -- none of four is found
 none-goes : (a b c d : Bool) (w x y z : ℕ)
@@ -118,7 +107,8 @@ move-fits : (sessions : List Standing) (from : ℕ) (found : Option ℕ) → len
     → Fits sessions from (move_of sessions found)
 move-fits sessions from None four low high is = all-done sessions from four low high is
 move-fits sessions from (Some session) four low high is =
-    going-fits sessions from session (standing_of sessions session) four is refl (found-goes sessions 4 from session is)
+    let first = first-found sessions from session is in
+    going-fits sessions from session (standing_of sessions session) four first refl first.goes
 
 pub moves-fit : (number turn : ℕ) (sessions : List Standing) → length sessions ≡ 4
     → Fits sessions (picked number turn) (move_at number turn sessions)

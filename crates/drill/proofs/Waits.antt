@@ -7,8 +7,9 @@ use Rattle.drill.specs.declared.schedule.Standing.{Standing}
 use Rattle.drill.specs.declared.schedule.Standing.TheVariants.{Blocked, Done, Ready, Running}
 use Rattle.drill.specs.declared.schedule.Move.{Move}
 use Rattle.drill.specs.declared.schedule.Move.TheVariants.{Over, Start, Step, Stuck}
-use Rattle.drill.specs.Laws.{IsOrder, StepsFor, has_call}
+use Rattle.drill.specs.Laws.{GoesFirst, IsOrder, StepsFor, has_call}
 use Rattle.drill.specs.Schedule.{first_going, move_at, move_of, picked, standing_of, start_or, step_behind, step_or}
+use Rattle.drill.proofs.First.{first-is}
 
 -- 1 where the first is below the second
 abbrev pub counted : ℕ → ℕ → ℕ
@@ -149,8 +150,8 @@ move-goes sessions session found is called steps =
     rw is (goes-on sessions session (standing_of sessions session) (step_behind sessions 4 session) called steps)
 
 pub waits-end : (number turn session : ℕ) (sessions : List Standing) (place : ℕ → ℕ)
-    → length sessions ≡ 4 → IsOrder sessions place → first_going sessions 4 (picked number turn) ≡ Some session
+    → length sessions ≡ 4 → IsOrder sessions place → GoesFirst sessions (picked number turn) session
     → has_call (standing_of sessions session) ≡ true → StepsFor sessions session (move_at number turn sessions)
-waits-end number turn session sessions place four ordered found called =
-    move-goes sessions session (first_going sessions 4 (picked number turn)) found called
+waits-end number turn session sessions place four ordered first called =
+    move-goes sessions session (first_going sessions 4 (picked number turn)) (first-is sessions (picked number turn) session first) called
     (holders-end sessions place four ordered 4 session called (counts-of place sessions session four called).0)

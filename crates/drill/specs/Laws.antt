@@ -1,5 +1,5 @@
 -- What holds of scripts and schedules, whatever the number.
-use Rattle.std.specs.Prelude.{ℕ, ◌≡◌, ◌≢◌, ◌+◌, ◌<◌, ◌≤◌, not, Bool, true, false, All, List, [], ◌∷◌, ◌++◌, length, Some}
+use Rattle.std.specs.Prelude.{ℕ, zero, suc, ◌≡◌, ◌≢◌, ◌+◌, ◌<◌, ◌≤◌, not, Bool, true, false, All, List, [], ◌∷◌, ◌++◌, length}
 use Rattle.mv_model.specs.declared.call.Call.{Call}
 use Rattle.mv_model.specs.declared.call.Call.TheVariants as call
 use Rattle.script_text.specs.declared.script.Line.{Line}
@@ -11,7 +11,7 @@ use Rattle.drill.specs.declared.schedule.Move.{Move}
 use Rattle.drill.specs.declared.schedule.Move.TheVariants.{Start, Step, Stuck, Over}
 use Rattle.drill.specs.Calls.{creation}
 use Rattle.drill.specs.Script.{is_open, script_of}
-use Rattle.drill.specs.Schedule.{first_going, is_done, move_at, picked, standing_of}
+use Rattle.drill.specs.Schedule.{is_done, move_at, picked, standing_of, upwards}
 
 abbrev pub is_creation : Call → Bool
 is_creation (call.Create table columns) = true
@@ -43,6 +43,19 @@ abbrev pub EachFollows : Type 0
 EachFollows = (number statements : ℕ) (earlier later : List Line) (said : Line)
     → script_of number statements ≡ earlier ++ said ∷ later → 0 < length earlier → Follows earlier said
 
+-- the session that stands so many places upwards of this one, after 4 again 1
+abbrev pub session_above : ℕ → ℕ → ℕ
+session_above zero session = session
+session_above (suc places) session = session_above places (upwards session)
+
+-- The session goes first at a turn: it is not done, and each session from the picked one up to it is.
+pub record GoesFirst (sessions : List Standing) (picked session : ℕ) : Type 0 where
+  pub distance : ℕ
+  pub near : distance < 4
+  pub place : session ≡ session_above distance picked
+  pub goes : is_done (standing_of sessions session) ≡ false
+  pub passed : (nearer : ℕ) → nearer < distance → is_done (standing_of sessions (session_above nearer picked)) ≡ true
+
 -- the session has a call in flight
 abbrev pub has_call : Standing → Bool
 has_call Running = true
@@ -61,18 +74,17 @@ WaitsFor sessions session [] last = session ≡ last
 WaitsFor sessions session (holder ∷ holders) last =
     (standing_of sessions session ≡ Blocked holder) × WaitsFor sessions holder holders last
 
--- The move is what the turn of the picked session asks for. Of the sessions upwards from that one the first that is not
--- done starts its next statement, if it has no call in flight. Else the running session at the end of its holders steps;
--- and the answer is `Stuck` only where its holders, however far they are followed, lead to no running one. The run is over
--- only where every session is done.
+-- The move is what the turn of the picked session asks for. The session that goes first starts its next statement, if it
+-- has no call in flight. Else the running session at the end of its holders steps; and the answer is `Stuck` only where
+-- its holders, however far they are followed, lead to no running one. The run is over only where every session is done.
 abbrev pub Fits : List Standing → ℕ → Move → Type 0
 Fits sessions picked (Start session) =
-    (first_going sessions 4 picked ≡ Some session) × (standing_of sessions session ≡ Ready)
+    GoesFirst sessions picked session × (standing_of sessions session ≡ Ready)
 Fits sessions picked (Step last) =
-    (session : ℕ) × (first_going sessions 4 picked ≡ Some session)
+    (session : ℕ) × GoesFirst sessions picked session
     × (holders : List ℕ) × WaitsFor sessions session holders last × (standing_of sessions last ≡ Running)
 Fits sessions picked Stuck =
-    (session : ℕ) × (first_going sessions 4 picked ≡ Some session) × (has_call (standing_of sessions session) ≡ true)
+    (session : ℕ) × GoesFirst sessions picked session × (has_call (standing_of sessions session) ≡ true)
     × ((holders : List ℕ) (last : ℕ) → WaitsFor sessions session holders last → standing_of sessions last ≢ Running)
 Fits sessions picked Over = (session : ℕ) → is_done (standing_of sessions session) ≡ true
 
@@ -87,9 +99,9 @@ StepsFor sessions session (Step last) =
     (holders : List ℕ) × WaitsFor sessions session holders last × (standing_of sessions last ≡ Running)
 StepsFor sessions session other = ⊥
 
--- Where no sessions wait in a circle, the turn of a session with a call in flight is a step: that of the running
--- session at the end of its holders.
+-- Where no sessions wait in a circle, and the session that goes first has a call in flight, the move is a step: that of
+-- the running session at the end of its holders.
 abbrev pub WaitsEnd : Type 0
 WaitsEnd = (number turn session : ℕ) (sessions : List Standing) (place : ℕ → ℕ)
-    → length sessions ≡ 4 → IsOrder sessions place → first_going sessions 4 (picked number turn) ≡ Some session
+    → length sessions ≡ 4 → IsOrder sessions place → GoesFirst sessions (picked number turn) session
     → has_call (standing_of sessions session) ≡ true → StepsFor sessions session (move_at number turn sessions)
