@@ -1,8 +1,8 @@
 -- The words of a line are those that it has.
-use Rattle.std.proofs.Common.{◌≡◌, ℕ, zero, suc, ◌<◌, Bool, true, false, List, [], ◌∷◌, ◌++◌, length, get_or, refl, ap, sym, ◌∙◌, inl, inr, arith, append_assoc}
-use Rattle.std.specs.Prelude.{◌==◌, ◌⊎◌, All, IsSome, Option, None, Some, if◌then◌else◌, is_some, option_map, option_and_then}
+use Rattle.std.proofs.Common.{◌≡◌, ℕ, zero, suc, Bool, true, false, List, [], ◌∷◌, ◌++◌, refl, ap, ◌∙◌, inl, inr, arith, append_assoc}
+use Rattle.std.specs.Prelude.{◌==◌, ◌⊎◌, All, IsSome, Option, None, Some, is_some, option_map, option_and_then}
 use Rattle.std.proofs.lemmas.Bool.{cases_Bool}
-use Rattle.sf_value.specs.Literal.{escaped, has_quote, quoted_text}
+use Rattle.sf_value.specs.Literal.{escaped, quoted_text}
 use Rattle.script_text.specs.Words.{is_blank, ends_word, with_byte, words_from, words_of, Bare, Between, Closed, Escaped, Quoted}
 use Rattle.script_text.specs.Laws.{EndsWord, HasWords, IsBareWord, IsTextWord, SplitsLines}
 use Rattle.script_text.proofs.Splitting.{with_byte-word, words_from-closed}
