@@ -15,7 +15,7 @@ use Rattle.pm_model.proofs.Cuts.{finished-append, length-finished, plan-append, 
 use Rattle.pm_model.proofs.Alone.{IsPlan-size, cached-run, length-words_after, length-durable-run}
 use Rattle.pm_model.proofs.PlanLaw.{plan_begins, plan_plays_on, plan_survives_parts}
 use Rattle.image_layout.proofs.Faults.{first_fault-none}
-use Rattle.shown_state.specs.Mending.{Reached, after_parts, mend_if, mend, mendings, lane_mending, split_mending, slot_mending, text_mending, last_mending, undo_mending, close_mending, clear_mending, reached_by_opening, version_mending}
+use Rattle.shown_state.specs.Mending.{Reached, after_parts, mend_unless, mend, mendings, lane_mending, split_mending, slot_mending, text_mending, last_mending, undo_mending, close_mending, clear_mending, reached_by_opening, version_mending}
 use Rattle.shown_state.specs.Fits.{Fits}
 use Rattle.shown_state.specs.OpeningParts.{parts_of, opening_parts, IsImage, FitsStill, StepKeeps}
 use Rattle.shown_state.specs.StepLaws.{AreIdle, AreJoined, HaveNoNew, AreUndone, AreClosed, AreClear, AreMended, StepsKeep, StepsMakeOpening, StepsKeepCuts, PartsRecover}
@@ -29,7 +29,7 @@ entry-none words e = first_fault-none entry_rules words (All-from_recursion (λ 
     (e.magic, (e.version, (e.last, (e.table_count, (e.reserved, (e.descriptors, (e.bitmaps, (e.lanes, (e.table_slots, (e.arrays, (e.trees, (e.names, (e.text_keys, (e.objects, (e.entries, tt))))))))))))))))
 
 -- a mending that leaves the entry rules kept doesn't stop opening
-mend-on : (mending : Mending) (words : List ℕ) → KeepsEntryRules (after_mending mending words) → mend_if false words mending ≡ going (after_mending mending words)
+mend-on : (mending : Mending) (words : List ℕ) → KeepsEntryRules (after_mending mending words) → mend_unless false words mending ≡ going (after_mending mending words)
 mend-on mending words rules = go (needed_parts words (mending words))
   where
     go : (parts : List Part) → after_parts (after_mending mending words) parts ≡ going (after_mending mending words)
@@ -54,12 +54,12 @@ opens-next P R mending later words entry plan cuts rest =
     let next = after_mending mending words in
     let on = sym (mend-on mending words (entry next (each_cut-end P parts words cuts))) in
     record {
-      plan = plan-append (length words) parts (parts_of later (mend_if false words mending)) plan
+      plan = plan-append (length words) parts (parts_of later (mend_unless false words mending)) plan
           (subst (λ (r : Reached). IsPlan (length words) (parts_of later r)) on (IsPlan-size (length next) (length words) (parts_of later (going next)) (length-finished parts words) rest.plan));
-      reaches = finished-append parts (parts_of later (mend_if false words mending)) words
+      reaches = finished-append parts (parts_of later (mend_unless false words mending)) words
           ∙ subst (λ (r : Reached). finished (parts_of later r) next ≡ (mend later r).words) on rest.reaches;
       goes_on = subst (λ (r : Reached). (mend later r).stopped ≡ false) on rest.goes_on;
-      cuts = each_cut-append P parts (parts_of later (mend_if false words mending)) words cuts (subst (λ (r : Reached). EachCut P (parts_of later r) next) on rest.cuts);
+      cuts = each_cut-append P parts (parts_of later (mend_unless false words mending)) words cuts (subst (λ (r : Reached). EachCut P (parts_of later r) next) on rest.cuts);
       end = subst (λ (r : Reached). R (mend later r).words) on rest.end;
     }
 
@@ -193,12 +193,12 @@ parts_reach : (list : List Mending) (reached : Reached) → finished (parts_of l
 parts_reach [] reached = refl
 parts_reach (mending ∷ list) reached = go reached.stopped (λ next. parts_reach list next)
   where
-    go : (stopped : Bool) → ((next : Reached) → finished (parts_of list next) next.words ≡ (mend list next).words) → finished (cond stopped [] (needed_parts reached.words (mending reached.words)) ++ parts_of list (mend_if stopped reached.words mending)) reached.words
-        ≡ (mend list (mend_if stopped reached.words mending)).words
+    go : (stopped : Bool) → ((next : Reached) → finished (parts_of list next) next.words ≡ (mend list next).words) → finished (cond stopped [] (needed_parts reached.words (mending reached.words)) ++ parts_of list (mend_unless stopped reached.words mending)) reached.words
+        ≡ (mend list (mend_unless stopped reached.words mending)).words
     go true rest = rest (record { words = reached.words; stopped = true })
     go false rest =
         let parts = needed_parts reached.words (mending reached.words) in
-        let next = mend_if false reached.words mending in
+        let next = mend_unless false reached.words mending in
         finished-append parts (parts_of list next) reached.words
         ∙ ap (λ (words : List ℕ). finished (parts_of list next) words) (sym (words_after_parts (after_mending mending reached.words) parts))
         ∙ rest next

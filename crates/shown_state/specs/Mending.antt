@@ -214,14 +214,15 @@ abbrev pub after_parts : List ℕ → List Part → Reached
 after_parts reached [] = record { words = reached; stopped = false }
 after_parts reached (part ∷ parts) = record { words = reached; stopped = not (is_none (entry_fault reached)) }
 
-abbrev pub mend_if : Bool → List ℕ → Mending → Reached
-mend_if true words mending = record { words = words; stopped = true }
-mend_if false words mending = after_parts (after_mending mending words) (needed_parts words (mending words))
+-- one mending, unless opening goes no further
+abbrev pub mend_unless : Bool → List ℕ → Mending → Reached
+mend_unless true words mending = record { words = words; stopped = true }
+mend_unless false words mending = after_parts (after_mending mending words) (needed_parts words (mending words))
 
 -- the words after these, one plan each
 abbrev pub mend : List Mending → Reached → Reached
 mend [] reached = reached
-mend (mending ∷ mendings) reached = mend mendings (mend_if reached.stopped reached.words mending)
+mend (mending ∷ mendings) reached = mend mendings (mend_unless reached.stopped reached.words mending)
 
 -- where opening ends on an image that keeps the entry rules
 unfoldable pub reached_by_opening : List ℕ → Reached

@@ -3,7 +3,7 @@ use Rattle.std.specs.Prelude.{◌≡◌, ℕ, ◌≤◌, ◌%◌, false, if◌th
 use Rattle.pm_model.specs.declared.action.Action.{Action}
 use Rattle.pm_model.specs.Plans.{Part, IsPlan, EachCut, plan_of}
 use Rattle.pm_model.specs.Needed.{needed_parts, Mending, after_mending}
-use Rattle.shown_state.specs.Mending.{Reached, mend_if, mendings}
+use Rattle.shown_state.specs.Mending.{Reached, mend_unless, mendings}
 use Rattle.shown_state.specs.LogicalState.{logical_state}
 use Rattle.shown_state.specs.Fits.{Fits}
 
@@ -12,7 +12,7 @@ abbrev pub parts_of : List Mending → Reached → List Part
 parts_of [] reached = []
 parts_of (mending ∷ later) reached =
     (if reached.stopped then [] else needed_parts reached.words (mending reached.words))
-    ++ parts_of later (mend_if reached.stopped reached.words mending)
+    ++ parts_of later (mend_unless reached.stopped reached.words mending)
 
 -- all parts that opening plays on these words
 unfoldable pub opening_parts : List ℕ → List Part
