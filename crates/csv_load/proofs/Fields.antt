@@ -1,6 +1,6 @@
 -- The values of a record, field by field.
-use Rattle.std.proofs.Common.{◌≡◌, ℕ, ◌+◌, ◌<◌, List, [], ◌∷◌, ◌++◌, length, drop, get_or, true, refl, sym, ap, ◌∙◌, inl, inr, arith, append_assoc, add-one}
-use Rattle.std.specs.Prelude.{◌==◌, Option, None, Some, option_map, Result, Ok, Err, IsSome, IsUtf8}
+use Rattle.std.proofs.Common.{◌≡◌, ℕ, ◌+◌, ◌<◌, ◌≤◌, List, [], ◌∷◌, ◌++◌, length, drop, get_or, true, false, refl, sym, ap, ◌∙◌, inl, inr, arith, append_assoc, add-one}
+use Rattle.std.specs.Prelude.{◌==◌, nat_le, Option, None, Some, option_map, Result, Ok, Err, IsSome, IsUtf8}
 use Rattle.std.proofs.Math.Seq.{drop-cons}
 use Rattle.std.proofs.lemmas.Bool.{cases_Bool}
 use Rattle.std.proofs.lemmas.Bool.Decides.{nat_tests}
@@ -10,16 +10,27 @@ use Rattle.std.proofs.lemmas.List.{append-nil}
 use Rattle.std.proofs.lemmas.Str.{IsUtf8-from_is_utf8, is_utf8-from_IsUtf8}
 use Rattle.std.specs.Str.{is_utf8}
 use Rattle.mv_model.specs.declared.shape.Column.{Column}
-use Rattle.mv_model.specs.declared.shape.Kind.{Kind}
+use Rattle.mv_model.specs.declared.shape.Kind.TheVariants as kind
 use Rattle.mv_model.specs.declared.value.Value.{Value}
-use Rattle.csv_load.specs.Rows.{before, field_value, of_record, row_of, spelled_value, values_from}
+use Rattle.mv_model.specs.declared.value.Value.TheVariants.{Text}
+use Rattle.csv_load.specs.Rows.{before, field_value, of_record, row_of, values_from}
 use Rattle.csv_load.specs.declared.error.LoadError.TheVariants.{BadField}
 
-pub field_value-utf8 : (held : Kind) (field : List ℕ) → IsUtf8 field → field_value held field ≡ spelled_value held field
-field_value-utf8 held field text = rw (is_utf8-from_IsUtf8 field text) refl
+pub text-short : (field : List ℕ) → length field ≤ 2000 → IsUtf8 field → field_value kind.Text field ≡ Some (Text field)
+text-short field within text =
+    let short : nat_le (length field) 2000 ≡ true = grind (arith, nat_tests) in
+    rw (is_utf8-from_IsUtf8 field text, short) refl
 
-pub field_value-bytes : (held : Kind) (field : List ℕ) → (IsUtf8 field → ⊥) → field_value held field ≡ None
-field_value-bytes held field never =
+pub text-long : (field : List ℕ) → 2000 < length field → field_value kind.Text field ≡ None
+text-long field above =
+    let long : nat_le (length field) 2000 ≡ false = grind (arith, nat_tests) in
+    elim (cases_Bool (is_utf8 field)) [
+      | inl is_text ↦ rw (is_text, long) refl
+      | inr is_none ↦ rw is_none refl
+    ]
+
+pub text-bytes : (field : List ℕ) → (IsUtf8 field → ⊥) → field_value kind.Text field ≡ None
+text-bytes field never =
     elim (cases_Bool (is_utf8 field)) [
       | inl is_text ↦ absurd (never (IsUtf8-from_is_utf8 field is_text))
       | inr is_none ↦ rw is_none refl

@@ -3,5 +3,4 @@ pub mod Records
 pub mod Table
 pub mod Writing
 pub mod ReadBack
-pub mod Failing
 pub mod Places

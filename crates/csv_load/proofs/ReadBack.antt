@@ -4,8 +4,7 @@ use Rattle.std.specs.Prelude.{ℤ, Option, None, Some, option_map, Ok, All, Fits
 use Rattle.std.specs.Int.{w64}
 use Rattle.std.specs.Fmt.{signed_decimal}
 use Rattle.std.proofs.lemmas.Bool.{cases_Bool}
-use Rattle.std.proofs.lemmas.Str.{IsUtf8-from_ascii}
-use Rattle.itoa.proofs.Decimal.{IsAscii-signed_decimal}
+use Rattle.std.proofs.lemmas.Str.{is_utf8-from_IsUtf8}
 use Rattle.csv.specs.Reading.{default_config, records, records_from}
 use Rattle.csv.specs.Machine.{next_record}
 use Rattle.csv.specs.Writing.{read_back}
@@ -23,7 +22,7 @@ use Rattle.sf_value.specs.Literal.{has_quote}
 use Rattle.sf_value.specs.Number.{integer_of}
 use Rattle.csv_load.specs.Rows.{field_value, row_of, rows_from, values_from}
 use Rattle.csv_load.specs.Written.{IsKept, IsRow, ReadsBack, record_text, text_of_rows, value_field}
-use Rattle.csv_load.proofs.Fields.{field_value-utf8, row-given}
+use Rattle.csv_load.proofs.Fields.{row-given}
 
 no_text : (read : Option (List ℕ)) (number : ℤ) → option_map Text read ≡ Some (Int number) → ⊥
 no_text None number e = cc e
@@ -40,12 +39,10 @@ integer-reads number fits =
 -- the field of a value has that value in a column of its kind
 field-reads : (held : Kind) (value : Value) → IsTrue (has_kind held value) → IsTrue (is_short value) → IsKept value
     → field_value held (value_field value) ≡ Some value
-field-reads kind.Int (Int number) suits short kept =
-    field_value-utf8 kind.Int (signed_decimal number) (IsUtf8-from_ascii (signed_decimal number) (IsAscii-signed_decimal number kept))
-    ∙ integer-reads number kept
+field-reads kind.Int (Int number) suits short kept = integer-reads number kept
 field-reads kind.Int (Text bytes) suits short kept = cc suits
 field-reads kind.Text (Int number) suits short kept = cc suits
-field-reads kind.Text (Text bytes) suits short kept = field_value-utf8 kind.Text bytes kept ∙ rw short refl
+field-reads kind.Text (Text bytes) suits short kept = rw (is_utf8-from_IsUtf8 bytes kept, short) refl
 
 values-read : (number : ℕ) (columns : List Column) (row : List Value) → IsRow columns row → values_from number columns (map value_field row) ≡ Ok row
 values-read number [] [] is = refl

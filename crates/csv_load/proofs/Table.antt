@@ -53,7 +53,7 @@ next-row columns behind more fields table read typed is =
     rw (append_assoc behind (fields ∷ []) more) (typed (fields ∷ more)
     ∙ ap (λ (r : Result (List Value) LoadError). rows_before table (row_before r (rows_from (length table + 1 + 1) columns more))) is)
 
-length-more : {A : Type 0} (xs : List A) (x : A) → length (xs ++ x ∷ []) ≡ length xs + 1
+pub length-more : {A : Type 0} (xs : List A) (x : A) → length (xs ++ x ∷ []) ≡ length xs + 1
 length-more xs x = omega (arith, length-append xs (x ∷ []))
 
 -- the next record is a row

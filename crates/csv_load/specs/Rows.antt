@@ -1,5 +1,5 @@
 -- The rows that a text of CSV is for a table.
-use Rattle.std.specs.Prelude.{ℕ, ◌==◌, ◌+◌, nat_le, List, [], ◌∷◌, length, Option, None, Some, option_map, Result, Ok, Err, if◌then◌else◌}
+use Rattle.std.specs.Prelude.{ℕ, ◌==◌, ◌&&◌, ◌+◌, nat_le, List, [], ◌∷◌, length, Option, None, Some, option_map, Result, Ok, Err, if◌then◌else◌}
 use Rattle.std.specs.Str.{is_utf8}
 use Rattle.csv.specs.Reading.{default_config, records, strip_bom}
 use Rattle.mv_model.specs.declared.limits.TheConstants.{MAX_TEXT_BYTES}
@@ -16,14 +16,11 @@ use Rattle.csv_load.specs.declared.error.LoadError.TheVariants.{BadField, WrongC
 abbrev pub text_records : List ℕ → List (List (List ℕ))
 text_records bytes = records default_config (strip_bom bytes)
 
--- the value that characters are in a column of this kind: the integer that they spell, or a text within the limit
-abbrev pub spelled_value : Kind → List ℕ → Option Value
-spelled_value kind.Int field = option_map Int (integer_of field)
-spelled_value kind.Text field = if nat_le (length field) MAX_TEXT_BYTES then Some (Text field) else None
-
--- the value that a field is in a column of this kind; one that is not UTF-8 is none
+-- The value that a field is in a column of this kind: the integer that it spells, or the text that it is, which is UTF-8
+-- within the limit.
 abbrev pub field_value : Kind → List ℕ → Option Value
-field_value held field = if is_utf8 field then spelled_value held field else None
+field_value kind.Int field = option_map Int (integer_of field)
+field_value kind.Text field = if is_utf8 field && nat_le (length field) MAX_TEXT_BYTES then Some (Text field) else None
 
 -- a value before those of the other fields, or the column of the first field that is no value
 abbrev pub before : Option Value → ℕ → Result (List Value) ℕ → Result (List Value) ℕ

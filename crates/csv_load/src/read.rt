@@ -1,12 +1,14 @@
-ghost use Rattle.std.specs.Prelude.{◌≡◌, ◌≤◌, length, true};
-ghost use Rattle.csv.specs.Reading.{error_kind, stops_reader};
+ghost use Rattle.std.specs.Prelude.{◌≡◌, ◌≤◌, length, true, IfErr, IfOk, OnOk, Some};
+ghost use Rattle.csv.specs.Reading.{ReadRecord, Ready, error_kind, is_flexible, reader_trim, stops_reader, took_first};
+ghost use Rattle.csv.specs.Records.{fields_of};
+ghost use Rattle.csv.specs.declared.reader.Trim.TheVariants as trim;
 ghost use Rattle.csv_load.specs.Rows.{rows};
 ghost use Rattle.csv_load.specs.Outcome.{Gives};
 ghost use Rattle.csv_load.specs.declared.error.LoadError.TheVariants.{NoMemory as no_memory};
 
 use crate::LoadError;
 use crate::row::read_row;
-use csv::{Error, ErrorKind, ReaderBuilder};
+use csv::{ByteRecord, Error, ErrorKind, Reader, ReaderBuilder};
 use mv_model::{Shape, Values};
 use std::alloc::Global;
 
@@ -22,22 +24,35 @@ fn failure(error: &Error) -> LoadError
     }
 }
 
+/// Reads the fields of the next record, as many as it has, and says whether there was one.
+fn read_next(reader: &mut Reader<&[u8]>, fields: &mut ByteRecord) -> Result<bool, LoadError>
+    requires whole { reader_trim reader.old ≡ trim.None }
+    requires ready { Ready reader.old }
+    requires flexible { is_flexible reader.old ≡ true }
+    ensures read { IfOk result (λ found. ReadRecord (λ bytes. Some bytes.now) reader.old reader.new found (fields_of fields.new)) }
+    ensures ready { OnOk result (took_first reader.new ≡ true) }
+    ensures flexible { OnOk result (is_flexible reader.new ≡ true) }
+    ensures memory { IfErr result (λ error. error ≡ no_memory) }
+{
+    match reader.read_byte_record(fields) {
+        Ok(found) => Ok(found),
+        Err(error) => Err(failure(&error)),
+    }
+}
+
 /// The rows that the records of a text are in a table of this shape, or the first cause why they are none: record by
 /// record, the number of its fields before the fields, these from the left. docs/CSV.md says what a record is.
 pub fn typed_rows(alloc: Global, bytes: &[u8], shape: &Shape) -> Result<Vec<Values>, LoadError>
     requires { length bytes.now ≤ 41943040 }
     ensures { Gives (λ table. table.items) result (rows bytes.now shape.now) }
 {
-    let reader = ReaderBuilder::new()
+    let mut reader = ReaderBuilder::new()
         .has_headers(false)
         .flexible(true)
         .from_reader(alloc, bytes);
+    let mut record = ByteRecord::new(alloc);
     let mut rows = Vec::new(alloc);
-    for record in reader.into_byte_records() {
-        let record = match record {
-            Ok(record) => record,
-            Err(error) => return Err(failure(&error)),
-        };
+    'records: while read_next(&mut reader, &mut record)? {
         let nth = rows.len() as u32 + 1;
         rows.push(read_row(alloc, nth, shape.columns(), &record)?)?;
     }

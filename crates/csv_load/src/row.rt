@@ -1,29 +1,27 @@
-ghost use Rattle.std.specs.Prelude.{◌≡◌, ◌≤◌, length, IfOk, IsUtf8};
+ghost use Rattle.std.specs.Prelude.{◌≡◌, ◌≤◌, length, IfOk};
 ghost use Rattle.csv.specs.Records.{fields_of};
-ghost use Rattle.csv_load.specs.Rows.{field_value, row_of, spelled_value};
+ghost use Rattle.mv_model.specs.declared.shape.Kind.TheVariants as kind;
+ghost use Rattle.csv_load.specs.Rows.{field_value, row_of};
 ghost use Rattle.csv_load.specs.Outcome.{Gives};
 
 use crate::LoadError;
 use csv::ByteRecord;
 use mv_model::limits::MAX_TEXT_BYTES;
 use mv_model::{Column, Kind, NoMemory, Text, Value, Values};
-use sf_value::read_int;
+use sf_value::read_int_bytes;
 use std::alloc::Global;
 use std::str;
 
-/// The value that the characters are in a column of this kind, if they are one.
-fn spell(alloc: Global, kind: Kind, text: &str) -> Result<Option<Value>, NoMemory>
-    requires { IsUtf8 text.now }
-    ensures { IfOk result (λ value. value ≡ spelled_value kind text.now) }
+/// The text that a field is, if it is one.
+fn read_text(alloc: Global, field: &[u8]) -> Result<Option<Value>, NoMemory>
+    ensures { IfOk result (λ value. value ≡ field_value kind.Text field.now) }
 {
-    match kind {
-        Kind::Int => Ok(read_int(text).map(Value::Int)),
-        Kind::Text => {
-            if text.len() > MAX_TEXT_BYTES {
-                return Ok(None);
-            }
-            Ok(Some(Value::Text(Text::of(alloc, text.as_bytes())?)))
-        }
+    if field.len() > MAX_TEXT_BYTES {
+        return Ok(None);
+    }
+    match str::from_utf8(field) {
+        Ok(text) => Ok(Some(Value::Text(Text::of(alloc, text.as_bytes())?))),
+        Err(_) => Ok(None),
     }
 }
 
@@ -31,9 +29,9 @@ fn spell(alloc: Global, kind: Kind, text: &str) -> Result<Option<Value>, NoMemor
 fn read_field(alloc: Global, kind: Kind, field: &[u8]) -> Result<Option<Value>, NoMemory>
     ensures { IfOk result (λ value. value ≡ field_value kind field.now) }
 {
-    match str::from_utf8(field) {
-        Ok(text) => spell(alloc, kind, text),
-        Err(_) => Ok(None),
+    match kind {
+        Kind::Int => Ok(read_int_bytes(field).map(Value::Int)),
+        Kind::Text => read_text(alloc, field),
     }
 }
 
