@@ -1,13 +1,17 @@
--- Session 1 plays alone: the words when its plan has ended, and when its next plan joins.
+-- Session 1 plays alone: the words when its plan has ended, and when its next plan joins. The law of a plan is one beside
+-- any others.
 use Rattle.std.proofs.Common.{◌≡◌, ◌≢◌, ℕ, ◌<◌, Bool, true, false, List, [], ◌∷◌, length, get_or, refl, sym, ◌∙◌, ap, subst, arith}
 use Rattle.std.proofs.lemmas.Bool.{both_ways}
 use Rattle.pm_model.specs.declared.action.Action.{Action}
 use Rattle.pm_model.specs.Device.{Device, acted, IsClean}
-use Rattle.pm_model.specs.ManyPlans.{Progress}
 use Rattle.pm_model.specs.Plans.{Play, Part, IsPlan, IsPlayable, IsPlaying, EachCut, finished, footprint, plan_of}
 use Rattle.pm_model.specs.Changes.{Change, HoldsOnWords}
+use Rattle.mv_model.specs.State.{State}
+use Rattle.engine_core.specs.Recoverable.{Fits}
+use Rattle.engine_core.specs.Survival.{IsLike, shown_commits}
 use Rattle.pm_model.proofs.Words.{ext_words}
 use Rattle.pm_model.proofs.PlanLaw.{plan_goes_on}
+use Rattle.pm_model.specs.ManyPlans.{Progress}
 use Rattle.side_by_side.specs.SideBySide.{Plans, left_of, advanced, begun, idle, with_plan, ArePlaying, HoldsAtEachCut, MayJoin, SurvivesBeside, without}
 use Rattle.side_by_side.specs.Standing.{stands}
 use Rattle.side_by_side.proofs.Changed.{survives_beside}
@@ -117,8 +121,8 @@ module _ (plans : Plans) (d : Device) (all : ArePlaying 17 plans d.cached d) (no
   pub joined-alone : AreAlone joined
   joined-alone = alone-with plans (begun next_play) (λ session w apart. none session w)
 
-  pub joined-holds : (P Q : (ℕ → ℕ) → List ℕ → Type 0) → SurvivesBeside 1 P Q (λ w. true) d.cached parts → HoldsAtEachCut 17 P plans d.cached → HoldsAtEachCut 17 Q joined d.cached
-  joined-holds P Q law holds = holds-joins 17 plans d.cached 1 (omega arith) next_play P Q (λ w. true)
+  pub joined-holds : (P Q : (ℕ → ℕ) → List ℕ → Type 0) (reads : ℕ → Bool) → SurvivesBeside 1 P Q reads d.cached parts → HoldsAtEachCut 17 P plans d.cached → HoldsAtEachCut 17 Q joined d.cached
+  joined-holds P Q reads law holds = holds-joins 17 plans d.cached 1 (omega arith) next_play P Q reads
       (λ w hit. hit) refl (λ t w lt apart hit. none t w) (λ w. none 1 w) (λ t w lt apart hit. none t w) law holds
 
   -- where its call has its place, the words stand for those after it
@@ -128,27 +132,31 @@ module _ (plans : Plans) (d : Device) (all : ArePlaying 17 plans d.cached d) (no
       ∙ ap (finished parts) (ext_words (stands 17 plans placed d.cached) d.cached (length-stands 17 plans placed d.cached)
       (λ w. stands-base 17 plans d.cached d all placed 17 w (omega arith) (λ t lt _. none t w)))
 
--- ── the law of a plan that is played alone ──
+-- ── the law of a plan beside any others ──
 
--- From words that have P, each cut that shows A has Q while actions are left, and each end that shows B has it once none is.
-pub survives-alone : (P Q : (ℕ → ℕ) → List ℕ → Type 0) (A B : List ℕ → Type 0) (base : List ℕ) (parts : List Part)
-    → IsPlan (length base) parts → EachCut A parts base → B (finished parts base)
-    → ((left : ℕ → ℕ) (image : List ℕ) → P (without 1 left) base → 0 < left 1 → A image → Q left image)
-    → ((left : ℕ → ℕ) (image : List ℕ) → P (without 1 left) base → left 1 ≡ 0 → B image → Q left image)
-    → SurvivesBeside 1 P Q (λ w. true) base parts
-survives-alone P Q A B base parts plan cuts end gives ends =
-    survives_beside change P Q 1 (λ w. true) base holds refl
-    (λ left words size same p. ext_words words base size (λ w. same w refl))
-    (λ left words image is p some shows. gives left image (subst (P (without 1 left)) is p) some shows)
-    (λ left words image is p none shows. ends left image (subst (P (without 1 left)) is p) none shows)
+-- The plan rests on some places: from any words that have P each cut that shows A has Q while actions are left, and each end
+-- that shows B has it once none is.
+pub survives-like : (P Q : (ℕ → ℕ) → List ℕ → Type 0) (state : State) (A B : List ℕ → List ℕ → Type 0) (reads : ℕ → Bool) (base : List ℕ) (parts : List Part)
+    → IsPlan (length base) parts → IsLike reads state base base
+    → ((words : List ℕ) → IsLike reads state base words → EachCut (A words) parts words)
+    → ((words : List ℕ) → IsLike reads state base words → B words (finished parts words))
+    → ((left : ℕ → ℕ) (words : List ℕ) → P (without 1 left) words → Fits words × (shown_commits words ≡ state.commits))
+    → ((left : ℕ → ℕ) (words image : List ℕ) → P (without 1 left) words → 0 < left 1 → A words image → Q left image)
+    → ((left : ℕ → ℕ) (words image : List ℕ) → P (without 1 left) words → left 1 ≡ 0 → B words image → Q left image)
+    → SurvivesBeside 1 P Q reads base parts
+survives-like P Q state A B reads base parts plan here cuts end says gives ends =
+    survives_beside change P Q 1 reads base holds here
+    (λ left words size same p. let now = says left words p in record { size = size; same = same; fits = now.0; shows = now.1 })
+    (λ left words image like p some shows. gives left words image p some shows)
+    (λ left words image like p none shows. ends left words image p none shows)
   where
     change : Change
-    change = record { asks = λ words. words ≡ base; parts = λ words. parts; shows = λ words. A; ends = λ words. B; reads = λ old new. new ≡ old }
+    change = record { asks = IsLike reads state base; parts = λ words. parts; shows = A; ends = B; reads = λ old new. IsLike reads state base new }
 
     holds : HoldsOnWords change
     holds = record {
-      plan = λ words is. subst (λ (ws : List ℕ). IsPlan (length ws) parts) (sym is) plan;
-      cuts = λ words is. subst (λ (ws : List ℕ). EachCut A parts ws) (sym is) cuts;
-      end = λ words is. subst (λ (ws : List ℕ). B (finished parts ws)) (sym is) end;
-      stable = λ old new same is. (same ∙ is, refl);
+      plan = λ words like. subst (λ (n : ℕ). IsPlan n parts) (sym like.size) plan;
+      cuts = cuts;
+      end = end;
+      stable = λ old new like is. (like, refl);
     }

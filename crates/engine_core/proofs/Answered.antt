@@ -27,6 +27,7 @@ use Rattle.engine_core.specs.declared.decision.Decision.{Decision}
 use Rattle.engine_core.specs.declared.transactions.Transactions.{Transactions}
 use Rattle.engine_core.specs.declared.transactions.Running.{Running}
 use Rattle.engine_core.proofs.Rows.{length-commits_in, length-rows_from}
+use Rattle.engine_core.specs.Survival.{IsRowBelow}
 use Rattle.engine_core.proofs.States.{commit-answer, commit-spent}
 use Rattle.engine_core.proofs.Decisions.{refused}
 use Rattle.engine_core.proofs.Commits.{close-decided}
@@ -37,9 +38,9 @@ abbrev pub standing : Reply → Transactions → Decision
 standing given now = record { reply = given; copy = given; plan = None; after = now; late = None }
 
 pub stands : (words : List ℕ) (now : Transactions) (said : Call) (given : Reply) (made : Decision) → made ≡ standing given now
-    → IsDecided words now said given [] now → IsPlacedLate None said given [] → IsDecision words now said made
-stands words now said given made is decided late =
-    subst (λ (d : Decision). IsDecision words now said d) (sym is) (record { copied = refl; decided = decided; late = late; open_still = tt; timed = tt; survives = stands-survives words now decided.stage })
+    → IsDecided words now said given [] now → IsPlacedLate None said given [] → IsRowBelow 0 given → IsDecision words now said made
+stands words now said given made is decided late below =
+    subst (λ (d : Decision). IsDecision words now said d) (sym is) (record { copied = refl; decided = decided; late = late; open_still = tt; timed = tt; survives = stands-survives words now given below })
 
 -- what holds anyhow holds where there is an error
 pub anyhow : {T E P : Type 0} (made : Result T E) → P → OnErr made P
@@ -73,7 +74,7 @@ commit-takes words begun own some few =
 pub no_txn : (words : List ℕ) (begun : ℕ) (said : Call) → IsStage words None → IsTrue (is_served said) → (said ≡ call.Begin → ⊥) → IsDecided words (record { begun = begun; running = None }) said reply.NoTxn [] (record { begun = begun; running = None })
 no_txn words begun said stage served other =
     refused words (record { begun = begun; running = None }) said reply.NoTxn stage (allowed said served other)
-    (refusals_change_nothing_lem (state_of words (record { begun = begun; running = None })) 1 said reply.NoTxn refl) tt tt refl tt
+    (refusals_change_nothing_lem (state_of words (record { begun = begun; running = None })) 1 said reply.NoTxn refl) tt refl tt
   where
     allowed : (said : Call) → IsTrue (is_served said) → (said ≡ call.Begin → ⊥) → IsAllowed (state_of words (record { begun = begun; running = None })) 1 said reply.NoTxn
     allowed call.Begin served other = absurd (other refl)
@@ -93,7 +94,7 @@ no_txn words begun said stage served other =
 pub already : (words : List ℕ) (begun : ℕ) (own : Running) (said : Call) → IsStage words (Some own) → said ≡ call.Begin → IsDecided words (record { begun = begun; running = Some own }) said reply.AlreadyOpen [] (record { begun = begun; running = Some own })
 already words begun own said stage is =
     subst (λ (one : Call). IsDecided words (record { begun = begun; running = Some own }) one reply.AlreadyOpen [] (record { begun = begun; running = Some own })) (sym is)
-    (refused words (record { begun = begun; running = Some own }) call.Begin reply.AlreadyOpen stage refl refl tt tt refl tt)
+    (refused words (record { begun = begun; running = Some own }) call.Begin reply.AlreadyOpen stage refl refl tt refl tt)
 
 -- a row past the table's is not seen
 pub unseen-past : (words : List ℕ) (own : Running) (row : ℕ) → IsStage words (Some own) → 4096 ≤ row → is_seen words own.rows row ≡ false
@@ -111,7 +112,7 @@ spent words begun own stage some many =
     let commits = length-commits_in words (get_or words last_at 0) in
     refused words (record { begun = begun; running = Some own }) call.Commit reply.Spent stage
     (sym (commit-spent (get_or words high_at 0 + own.rows) (commits_in words (get_or words last_at 0)) begun own.number (get_or words last_at 0) (rows_from words (get_or words high_at 0) own.rows)
-    (omega (arith, count, some)) (omega (arith, commits, many)))) refl tt tt refl tt
+    (omega (arith, count, some)) (omega (arith, commits, many)))) refl tt refl tt
 
 -- the end of a transaction that wrote nothing
 pub closes : {E : Type 0} (words : List ℕ) (begun : ℕ) (own : Running) (made : Result Decision E) → IsStage words (Some own) → own.rows ≡ 0 → IfOk made (λ decision. IsClosed begun decision)
@@ -125,7 +126,7 @@ closes words begun own (Ok decision) stage none closed =
       late = rw (closed.reply, closed.late) tt;
       open_still = rw closed.late tt;
       timed = rw closed.late tt;
-      survives = rw (closed.after, closed.late) (close-survives words begun own (left_of decision.plan) (record { begun = begun; running = None }) stage none closed.plan decided);
+      survives = rw (closed.reply, closed.after, closed.late) (close-survives words begun own (left_of decision.plan) (record { begun = begun; running = None }) stage none closed.plan decided);
     }
 
 -- an insert that is served is one of an integer into the table

@@ -1,325 +1,327 @@
--- What the cuts of the plan of a commit show: up to the fence at which it is decided the commits before it, or the commit too
--- where its commit word is set; and from that fence on the commit.
-use Rattle.std.proofs.Common.{◌≡◌, ◌≢◌, ◌⊎◌, inl, inr, ⊎_elim, ℕ, ◌+◌, ◌<◌, ◌≤◌, ◌∙◌, true, false, eqb, List, length, get_or, Option, Some, refl, ap, sym, arith}
-use Rattle.std.proofs.lemmas.Bool.{cases_lt}
+-- What the cuts of the plan of a commit show: up to the fence at which it is decided the commits before it, or the commit
+-- too where its commit word is set; and from that fence on the commit.
+use Rattle.std.proofs.Common.{◌≡◌, ◌≢◌, ◌⊎◌, inl, inr, ⊎_elim, ℕ, zero, suc, ◌+◌, ◌-◌, ◌^◌, ◌<◌, ◌≤◌, ◌∙◌, Bool, true, false, ◌&&◌, eqb, leb, ltb, List, [], ◌∷◌, ◌++◌, length, map, get_or, set, Some, refl, ap, sym, subst, arith}
+use Rattle.std.specs.List.{range_with_len}
+use Rattle.std.proofs.lemmas.Bool.{cases_Bool, cases_lt, both_ways, eq-eqb, eqb-true, ne_eqb, le-leb, lt-ltb, and_from, or_cases, or_left, or_right}
+use Rattle.std.proofs.lemmas.List.{get_or-set_same, get_or-set_other, length-set}
 use Rattle.mv_model.specs.declared.limits.TheConstants.{MAX_COMMITS}
-use Rattle.mv_model.specs.State.{State}
-use Rattle.mv_model.specs.View.{next_row_of}
+use Rattle.mv_model.specs.State.{State, WriteSet}
 use Rattle.pm_model.specs.Device.{IsBetween}
 use Rattle.image_layout.specs.Fixed.{last_at, state_at, commit_word_at, entry_at}
-use Rattle.pm_model.specs.Plans.{Part, one_store, footprint, finished, EachCut}
+use Rattle.pm_model.specs.Plans.{Part, EachCut, one_store, store, stores, unless_empty, words_after, footprint, finished}
 use Rattle.pm_model.proofs.Alone.{length-words_after}
-use Rattle.pm_model.proofs.Cuts.{between-kept, between-start, between-end, cut-one_store, each_cut-unless_empty}
+use Rattle.pm_model.proofs.Cuts.{between-end, between-kept, cut-one_store}
 use Rattle.stage_object.specs.Object.{clear_part}
+use Rattle.image_view.specs.Views.{IsCommit}
+use Rattle.stage_view.specs.Quiet.{IsQuiet}
+use Rattle.stage_view.specs.StageCommit.{is_in, MayCommit, ReadsForCommit}
+use Rattle.stage_view.specs.StageEnding as ending
+use Rattle.stage_view.specs.StageEnding.{MayEnd}
+use Rattle.stage_view.specs.StageView.{any_below, past_ending, view_of}
+use Rattle.stage_view.proofs.Commits.{decided-may_end, decided-shows, may-same, stamps-quiet}
+use Rattle.stage_view.proofs.Endings.{end-same}
+use Rattle.stage_view.proofs.Endings as endings
+use Rattle.stage_view.proofs.Numbers.{any-at, any-from, commit-shown}
+use Rattle.stage_view.proofs.QuietPlans.{any-none}
 use Rattle.engine_core.specs.Stage.{high_at, born_at, ended_at, value_at}
 use Rattle.engine_core.specs.StagePlans.{commit_early, commit_late, stamp_part}
 use Rattle.engine_core.specs.StageRules.{IsStage}
-use Rattle.engine_core.specs.LogicalState.{commit_count, commits_in}
-use Rattle.engine_core.specs.Recoverable.{Fits}
-use Rattle.engine_core.specs.Survival.{IsShown}
-use Rattle.engine_core.specs.declared.transactions.Running.{Running}
-use Rattle.engine_core.proofs.Rows.{commits_in-same}
-use Rattle.engine_core.proofs.RunningFits.{IsBeside, moment-fits}
-use Rattle.engine_core.proofs.RunningMoments.{IsStampedWithin, IsIdleMoment, IsOpenMoment, IsDecidedMoment, decided-moment, decided-shows, idle-moment, idle-shows}
-use Rattle.engine_core.proofs.RunningCuts.{beside-self, beside-cut, beside-store, has-same, stage-entries, stage-shows, open-shown}
-use Rattle.engine_core.proofs.Stores.{get-stored, get-beside, get-run, get-run_last, run-misses}
-use Rattle.engine_core.proofs.Commits as commits
-use Rattle.engine_core.proofs.Commits.{born_is, entry_is, clear_run}
+use Rattle.engine_core.specs.LogicalState.{commit_count, commit_of, commits_in, past_entry, rows_from, within}
+use Rattle.engine_core.specs.Survival.{IsLike, IsShown, IsShownUntil, commit_reads, is_own}
+use Rattle.engine_core.proofs.Commits.{born_is, entry_is, commit_of-interval, clear_run}
+use Rattle.engine_core.proofs.Entries.{HasEntries, past-created, ending-created}
+use Rattle.engine_core.proofs.Ruled.{IsRuled, ruled-cleared, ruled-last, ruled-self, ruled-stamps, ruled-state, ruled-word}
+use Rattle.engine_core.proofs.Rows.{length-commits_in}
+use Rattle.engine_core.proofs.Shown.{fits-together, next-shown, quiet-shown}
+use Rattle.engine_core.proofs.Stores.{get-run, get-run_beside, get-run_last, run-misses}
 
-module _ (words : List ℕ) (begun number rows high last : ℕ) (stage : IsStage words (Some (record { number = number; rows = rows })))
-    (is_high : get_or words high_at 0 ≡ high) (is_last : get_or words last_at 0 ≡ last) (some : 0 < rows) (room : last < MAX_COMMITS) (fits : Fits words) where
-  abbrev running : Option Running
-  running = Some (record { number = number; rows = rows })
+-- ── the rows of a transaction, as a list ──
 
-  abbrev stamped : List ℕ
-  stamped = commits.stamped words begun number rows high last stage is_high is_last some room
+in-range : (first n row : ℕ) → is_in (range_with_len first n) row ≡ true → (first ≤ row) × (row < first + n)
+in-range first zero row hit = absurd (both_ways false refl hit)
+in-range first (suc n) row hit = ⊎_elim
+    (λ here. let is = eqb-true row first here in (omega (arith, is), omega (arith, is)))
+    (λ rest. let found = in-range (first + 1) n row rest in let low = found.0 in let high = found.1 in (omega (arith, low), omega (arith, high)))
+    (or_cases (eqb row first) (is_in (range_with_len (first + 1) n) row) hit)
 
-  abbrev decided : List ℕ
-  decided = commits.decided words begun number rows high last stage is_high is_last some room
+range-in : (first n row : ℕ) → first ≤ row → row < first + n → is_in (range_with_len first n) row ≡ true
+range-in first zero row low high = absurd (omega (arith, low, high))
+range-in first (suc n) row low high = ⊎_elim
+    (λ (is : first < row). or_right (eqb row first) (is_in (range_with_len (first + 1) n) row) (range-in (first + 1) n row (omega (arith, is)) (omega (arith, high))))
+    (λ (is : row ≤ first). or_left (eqb row first) (is_in (range_with_len (first + 1) n) row) (eq-eqb row first (omega (arith, is, low))))
+    (cases_lt first row)
 
-  abbrev counted : List ℕ
-  counted = commits.counted words begun number rows high last stage is_high is_last some room
+bool-same : (a b : Bool) → (a ≡ true → b ≡ true) → (b ≡ true → a ≡ true) → a ≡ b
+bool-same true b forth back = sym (forth refl)
+bool-same false b forth back = ⊎_elim (λ hit. absurd (both_ways false refl (back hit))) (λ miss. sym miss) (cases_Bool b)
 
-  abbrev idle : List ℕ
-  idle = commits.idle words begun number rows high last stage is_high is_last some room
+-- ── the places that are cleared ──
 
-  abbrev cleared : List ℕ
-  cleared = commits.cleared words begun number rows high last stage is_high is_last some room
+abbrev cleared_places : ℕ → List ℕ
+cleared_places count = map (λ nth. entry_at 0 nth) (range_with_len 0 count) ++ commit_word_at 0 ∷ []
 
-  size : 32768 ≤ length words
-  size = stage.size
+clear-is : (ks : List ℕ) → map (λ nth. store (entry_at 0 nth) 0) ks ++ one_store (commit_word_at 0) 0 ≡ stores 0 (map (λ nth. entry_at 0 nth) ks ++ commit_word_at 0 ∷ [])
+clear-is [] = refl
+clear-is (k ∷ ks) = ap (λ (part : Part). store (entry_at 0 k) 0 ∷ part) (clear-is ks)
 
-  within : high + rows ≤ 4096
-  within = let r = stage.room in omega (arith, r, is_high)
+clear_part-is : (count : ℕ) → clear_part 0 count true ≡ stores 0 (cleared_places count)
+unfolding clear_part
+clear_part-is count = clear-is (range_with_len 0 count)
 
-  few : rows ≤ 60
-  few = stage.few
+-- the second half, as its places are cleared
+pub commit_late-is : (count number : ℕ) → commit_late count number ≡ ending.commit_late 0 number (cleared_places count)
+commit_late-is count number = ap (λ (parts : List Part). one_store last_at number ∷ one_store (state_at 0) 0 ∷ parts) (last-one (clear_part-is count))
+  where
+    not-empty : (ks : List ℕ) → unless_empty (stores 0 (ks ++ commit_word_at 0 ∷ [])) ≡ stores 0 (ks ++ commit_word_at 0 ∷ []) ∷ []
+    not-empty [] = refl
+    not-empty (k ∷ ks) = refl
 
-  length-stamped : length stamped ≡ length words
-  length-stamped = length-words_after (stamp_part high rows (last + 1)) words
+    last-one : {part : Part} → part ≡ stores 0 (cleared_places count) → unless_empty part ≡ stores 0 (cleared_places count) ∷ []
+    last-one is = ap unless_empty is ∙ not-empty (map (λ nth. entry_at 0 nth) (range_with_len 0 count))
 
-  length-decided : length decided ≡ length words
-  length-decided = length-words_after (one_store (commit_word_at 0) (last + 1)) stamped ∙ length-stamped
+is-cleared : (first n w : ℕ) → is_in (map (λ nth. entry_at 0 nth) (range_with_len first n) ++ commit_word_at 0 ∷ []) w ≡ true → (w ≡ 1025) ⊎ ((1028 ≤ w) × (w < 1028 + first + n))
+is-cleared first zero w hit = ⊎_elim (λ here. inl (eqb-true w 1025 here)) (λ none. absurd (both_ways false refl none)) (or_cases (eqb w 1025) false hit)
+is-cleared first (suc n) w hit = ⊎_elim
+    (λ here. let is = eqb-true w (entry_at 0 first) here in inr (omega (arith, is), omega (arith, is)))
+    (λ rest. ⊎_elim (λ word. inl word) (λ entry. let low = entry.0 in let high = entry.1 in inr (low, omega (arith, high))) (is-cleared (first + 1) n w rest))
+    (or_cases (eqb w (entry_at 0 first)) (is_in (map (λ nth. entry_at 0 nth) (range_with_len (first + 1) n) ++ commit_word_at 0 ∷ []) w) hit)
 
-  length-counted : length counted ≡ length words
-  length-counted = length-words_after (one_store last_at (last + 1)) decided ∙ length-decided
+-- ── what the plan rests on ──
 
-  -- ── the stamps ──
+pub within-hit : (first count w : ℕ) → first ≤ w → w < first + count → within first count w ≡ true
+within-hit first count w low high = and_from (leb first w) (ltb w (first + count)) (le-leb first w low) (lt-ltb w (first + count) high)
 
-  misses : (w : ℕ) → (w < 2048 + high) ⊎ (2048 + high + rows ≤ w) → w ≢ 517 → footprint (stamp_part high rows (last + 1)) w ≡ false
-  misses w out apart = run-misses (last + 1) born_at 2048 born_is high_at (high + rows) high rows w out apart
+module _ (base : List ℕ) (begun number rows high last : ℕ) (stage : IsStage base (Some (record { number = number; rows = rows })))
+    (is_high : get_or base high_at 0 ≡ high) (is_last : get_or base last_at 0 ≡ last) (some : 0 < rows) (room : last < MAX_COMMITS) where
+  entries : HasEntries base high rows
+  entries = subst (λ (h : ℕ). HasEntries base h rows) is_high (record { few = stage.few; room = stage.room; entries = stage.entries; free = stage.free })
 
-  module _ (image : List ℕ) (between : IsBetween words stamped image) where
-    stays : (w : ℕ) → (w < 2048 + high) ⊎ (2048 + high + rows ≤ w) → w ≢ 517 → get_or image w 0 ≡ get_or words w 0
-    stays w out apart = between-kept (stamp_part high rows (last + 1)) words image w between (misses w out apart)
+  may : MayCommit base 0 (last + 1) (range_with_len high rows) [] (high + rows)
+  may = record {
+    object_is = omega arith;
+    state = stage.state;
+    commit_word = stage.commit_word;
+    number_is = omega (arith, is_last);
+    creates = λ row. bool-same ((ltb 0 16 && eqb 0 0) && any_below (λ nth. eqb (past_entry (get_or base (entry_at 0 nth) 0)) (row + 1)) 60) (is_in (range_with_len high rows) row) (in-entries row) (entered row);
+    ends = λ row. any-none (λ nth. eqb (past_ending (get_or base (entry_at 0 nth) 0)) (row + 1)) 60 (λ nth lt. let none = no-ending nth lt in ne_eqb (past_ending (get_or base (entry_at 0 nth) 0)) (row + 1) (λ e. omega (arith, e, none)));
+    created_rows = λ row hit. let in_range = in-range high rows row hit in let low = in_range.0 in let below = in_range.1 in let fits = entries.room in
+        (omega (arith, below, fits), in_range.1, stage.unborn row (omega (arith, low, is_high)) (omega (arith, below, fits)));
+    ended_rows = λ row hit. absurd (both_ways false refl hit);
+    least = omega (arith, is_high);
+    most = λ row below. ⊎_elim (λ (old : row < high). inl (omega (arith, old, is_high))) (λ (low : high ≤ row). inr (row, range-in high rows row low below, omega arith)) (cases_lt row high);
+    stamps = stage.ended;
+  }
+    where
+      in-entries : (row : ℕ) → ((ltb 0 16 && eqb 0 0) && any_below (λ nth. eqb (past_entry (get_or base (entry_at 0 nth) 0)) (row + 1)) 60) ≡ true → is_in (range_with_len high rows) row ≡ true
+      in-entries row hit =
+          let at = any-at (λ nth. eqb (past_entry (get_or base (entry_at 0 nth) 0)) (row + 1)) 60 hit in
+          let is = eqb-true (past_entry (get_or base (entry_at 0 at.0) 0)) (row + 1) at.2 in
+          ⊎_elim
+          (λ (own : at.0 < rows).
+          let fits = entries.room in
+          let spelt = ap past_entry (entries.entries at.0 own) ∙ past-created (high + at.0) (omega (arith, own, fits)) in
+          range-in high rows row (omega (arith, is, spelt)) (omega (arith, is, spelt, own)))
+          (λ (free : rows ≤ at.0). let none : past_entry (get_or base (entry_at 0 at.0) 0) ≡ 0 = ap past_entry (entries.free at.0 free at.1) in absurd (omega (arith, is, none)))
+          (cases_lt at.0 rows)
 
-    stamped-high : (get_or image high_at 0 ≡ high) ⊎ (get_or image high_at 0 ≡ high + rows)
-    stamped-high = ⊎_elim (λ same. inl (same ∙ is_high))
-        (λ new. inr (new ∙ get-run_last (last + 1) born_at 2048 born_is high_at (high + rows) high rows words (let s = size in omega (arith, s))))
-        (between.each high_at)
+      entered : (row : ℕ) → is_in (range_with_len high rows) row ≡ true → ((ltb 0 16 && eqb 0 0) && any_below (λ nth. eqb (past_entry (get_or base (entry_at 0 nth) 0)) (row + 1)) 60) ≡ true
+      entered row hit =
+          let in_range = in-range high rows row hit in
+          let low = in_range.0 in
+          let below = in_range.1 in
+          let fits = entries.room in
+          let few = entries.few in
+          let place : high + (row - high) ≡ row = omega (arith, low) in
+          let own : row - high < rows = omega (arith, low, below) in
+          let spelt = ap past_entry (entries.entries (row - high) own) ∙ past-created (high + (row - high)) (omega (arith, place, below, fits)) in
+          any-from (λ nth. eqb (past_entry (get_or base (entry_at 0 nth) 0)) (row + 1)) 60 (row - high) (omega (arith, own, few))
+          (eq-eqb (past_entry (get_or base (entry_at 0 (row - high)) 0)) (row + 1) (omega (arith, spelt, place)))
 
-    stamped-born : (row : ℕ) → row < 4096 → IsStampedWithin words image (get_or words high_at 0) (get_or words high_at 0 + rows) (get_or words last_at 0 + 1) row
-    stamped-born row lt = ⊎_elim (λ same. inl same)
-        (λ new. ⊎_elim
-        (λ (below : row < high). inl (stays (born_at row) (inl (omega (arith, below))) (λ e. omega (arith, e))))
-        (λ (low : high ≤ row). ⊎_elim
-        (λ (own : row < high + rows). inr (
-          omega (arith, low, is_high),
-          omega (arith, own, is_high),
-          new ∙ get-run (last + 1) born_at 2048 born_is high_at (high + rows) high rows words row low own (let s = size in let r = within in omega (arith, s, r)) (λ e. omega (arith, e)) ∙ ap (λ (n : ℕ). n + 1) (sym is_last),
-        ))
-        (λ (above : high + rows ≤ row). inl (stays (born_at row) (inr (omega (arith, above))) (λ e. omega (arith, e))))
-        (cases_lt row (high + rows)))
-        (cases_lt row high))
-        (between.each (born_at row))
+      no-ending : (nth : ℕ) → nth < 60 → past_ending (get_or base (entry_at 0 nth) 0) ≡ 0
+      no-ending nth lt = ⊎_elim
+          (λ (own : nth < rows). let fits = entries.room in ap past_ending (entries.entries nth own) ∙ ending-created (high + nth) (omega (arith, own, fits)))
+          (λ (free : rows ≤ nth). ap past_ending (entries.free nth free lt))
+          (cases_lt nth rows)
 
-    stamped-moment : IsOpenMoment words image rows
-    stamped-moment = record {
-      beside = beside-cut words words image (stamp_part high rows (last + 1)) (beside-self words) between
-          (λ w a. misses w (inl (omega (arith, a))) (λ e. omega (arith, e, a)))
-          (λ w a b. misses w (inl (omega (arith, b))) (λ e. omega (arith, e, a)))
-          (λ w a b. misses w (inl (omega (arith, b))) (λ e. omega (arith, e, a)))
-          (λ w a b. misses w (inr (let r = within in omega (arith, r, a))) (λ e. omega (arith, e, a)))
-          (λ w a. misses w (inr (let r = within in omega (arith, r, a))) (λ e. omega (arith, e, a)));
-      state = stays (state_at 0) (inl (omega arith)) (λ e. omega (arith, e)) ∙ stage.state;
-      last = stays last_at (inl (omega arith)) (λ e. omega (arith, e));
-      most = stage.last;
-      commit_word = stays (commit_word_at 0) (inl (omega arith)) (λ e. omega (arith, e)) ∙ stage.commit_word;
-      entries = has-same words image (get_or words high_at 0) rows (stage-entries words running stage) (λ nth lt. stays (entry_at 0 nth) (inl (omega (arith, lt))) (λ e. omega (arith, e)));
-      next = ⊎_elim (λ (e : get_or image high_at 0 ≡ high). omega (arith, e, is_high)) (λ (e : get_or image high_at 0 ≡ high + rows). omega (arith, e, is_high)) stamped-high;
-      high = ⊎_elim (λ (e : get_or image high_at 0 ≡ high). omega (arith, e, is_high)) (λ (e : get_or image high_at 0 ≡ high + rows). omega (arith, e, is_high)) stamped-high;
-      born = stamped-born;
-      value = λ row lt low. stays (value_at row) (inr (let r = within in omega (arith, r))) (λ e. omega (arith, e));
-    }
+  abbrev reads : ℕ → Bool
+  reads = commit_reads high rows
 
-  all-stamped : IsOpenMoment words stamped rows
-  all-stamped = stamped-moment stamped (between-end (stamp_part high rows (last + 1)) words)
-
-  is_high-stamped : get_or stamped high_at 0 ≡ get_or words high_at 0 + rows
-  is_high-stamped = get-run_last (last + 1) born_at 2048 born_is high_at (high + rows) high rows words (let s = size in omega (arith, s)) ∙ ap (λ (n : ℕ). n + rows) (sym is_high)
-
-  -- ── from the commit word on ──
-
-  -- the words of rows are those with all stamps
-  abbrev IsOfStamped : List ℕ → Type 0
-  IsOfStamped image = (w : ℕ) → (w ≡ 517) ⊎ (2048 ≤ w) → get_or image w 0 ≡ get_or stamped w 0
-
-  rows-born : (image : List ℕ) → IsOfStamped image → (row : ℕ) → row < 4096 → IsStampedWithin words image (get_or words high_at 0) (get_or words high_at 0 + rows) (get_or words last_at 0 + 1) row
-  rows-born image same row lt =
-      let is = same (born_at row) (inr (omega arith)) in
-      ⊎_elim (λ old. inl (is ∙ old)) (λ own. inr (own.0, own.1, is ∙ own.2)) (all-stamped.born row lt)
-
-  decided-rows : (image : List ℕ) → IsBeside words image → get_or image (state_at 0) 0 ≡ 1 → last ≤ get_or image last_at 0 → get_or image last_at 0 ≤ last + 1 → get_or image (commit_word_at 0) 0 ≡ last + 1
-      → ((nth : ℕ) → nth < 60 → get_or image (entry_at 0 nth) 0 ≡ get_or stamped (entry_at 0 nth) 0) → IsOfStamped image → IsDecidedMoment words image rows
-  decided-rows image beside state least most word entries same = record {
-    beside = beside;
-    state = state;
-    least = omega (arith, least, is_last);
-    last = omega (arith, most, is_last);
-    most = omega (arith, room, is_last);
-    commit_word = omega (arith, word, is_last);
-    entries = has-same stamped image (get_or words high_at 0) rows all-stamped.entries entries;
-    high = same high_at (inl refl) ∙ is_high-stamped;
-    born = rows-born image same;
-    value = λ row lt low. same (value_at row) (inr (omega arith)) ∙ all-stamped.value row lt low;
+  reads_are : ReadsForCommit 0 (commit_reads high rows)
+  reads_are = record {
+    own = λ w low below. or_left (is_own w) _ (within-hit 1024 64 w low below);
+    last = refl;
+    high = refl;
+    stamps = λ w low below. or_right (is_own w) _ (or_right (eqb w last_at) _ (or_right (eqb w high_at) _ (or_left (within 2048 8192 w) _ (within-hit 2048 8192 w low (omega (arith, below))))));
   }
 
-  idle-rows : (image : List ℕ) → IsBeside words image → get_or image (state_at 0) 0 ≡ 0 → get_or image last_at 0 ≡ last + 1 → get_or image (commit_word_at 0) 0 ≤ last + 1 → IsOfStamped image → IsIdleMoment words image
-  idle-rows image beside state is word same =
-      let up : get_or image high_at 0 ≡ get_or words high_at 0 + rows = same high_at (inl refl) ∙ is_high-stamped in
-      record {
-        beside = beside;
-        state = state;
-        least = omega (arith, is, is_last);
-        last = omega (arith, is, room);
-        commit_word = omega (arith, is, word);
-        next = omega (arith, up);
-        high = let r = within in omega (arith, up, r, is_high);
-        born = λ row lt. ⊎_elim (λ old. inl old) (λ own. let below = own.1 in inr (own.0, omega (arith, up, below), (let at = own.2 in omega (arith, at, is, is_last)))) (rows-born image same row lt);
-        fresh = λ row lt. inr (omega (arith, is, is_last));
-        value = λ row lt low. same (value_at row) (inr (omega arith)) ∙ all-stamped.value row lt low;
-      }
+  read-value : (row : ℕ) → high ≤ row → row < high + rows → commit_reads high rows (value_at row) ≡ true
+  read-value row low below =
+      or_right (is_own (value_at row)) _ (or_right (eqb (value_at row) last_at) _ (or_right (eqb (value_at row) high_at) _ (or_right (within 2048 8192 (value_at row)) _
+      (within-hit (value_at high) rows (value_at row) (omega (arith, low)) (omega (arith, below))))))
 
-  -- its commits are those of the words once all was played
-  same-commits : (image : List ℕ) → IsOfStamped image → commits_in image (last + 1) ≡ commits_in cleared (last + 1)
-  same-commits image same =
-      let each = λ (w : ℕ) (low : 2048 ≤ w). same w (inr low) ∙ sym (commits.late-beside words begun number rows high last stage is_high is_last some room w
-      (λ e. omega (arith, e, low)) (λ e. omega (arith, e, low)) (λ e. omega (arith, e, low)) (inr (let f = few in omega (arith, f, low)))) in
-      commits_in-same (last + 1) cleared image (record {
-        born = λ row n lt low le. ap (λ (x : ℕ). eqb x n) (each (born_at row) (omega arith));
-        ended = λ row n lt low le. ap (λ (x : ℕ). eqb x n) (each (ended_at row) (omega arith));
-        value = λ row lt low le. each (value_at row) (omega arith);
-      })
+  -- ── the first half ──
 
-  stamped-beside : IsBeside words stamped
-  stamped-beside = all-stamped.beside
+  module _ (before after : State) (old : before.commits ≡ commits_in base last) (new : after.commits ≡ commits_in base last ++ record { created = rows_from base high rows; ended = [] } ∷ [])
+      (words : List ℕ) (like : IsLike (commit_reads high rows) before base words) where
+    size : 32768 ≤ length words
+    size = let same = like.size in let s = stage.size in omega (arith, same, s)
 
-  decided-beside : IsBeside words decided
-  decided-beside = beside-store words stamped (commit_word_at 0) (last + 1) stamped-beside (omega arith) (λ a b. omega (arith, a)) (λ a b. omega (arith, a)) (λ a b. omega (arith, a)) (omega arith)
+    here : MayCommit words 0 (last + 1) (range_with_len high rows) [] (high + rows)
+    here = may-same words base 0 (last + 1) (range_with_len high rows) [] (high + rows) (commit_reads high rows) reads_are like.same may
 
-  counted-beside : IsBeside words counted
-  counted-beside = beside-store words decided last_at (last + 1) decided-beside (omega arith) (λ a b. omega (arith, a)) (λ a b. omega (arith, a)) (λ a b. omega (arith, a)) (omega arith)
+    count : commit_count words ≡ last
+    count = sym (length-commits_in words (commit_count words)) ∙ ap length (like.shows ∙ old) ∙ length-commits_in base last
 
-  idle-beside : IsBeside words idle
-  idle-beside = beside-store words counted (state_at 0) 0 counted-beside (omega arith) (λ a b. omega (arith, a)) (λ a b. omega (arith, a)) (λ a b. omega (arith, a)) (omega arith)
+    same_last : get_or words last_at 0 ≡ last
+    same_last = like.same last_at reads_are.last ∙ is_last
 
-  decided-other : (w : ℕ) → w ≢ 1025 → get_or decided w 0 ≡ get_or stamped w 0
-  decided-other w apart = get-beside stamped (commit_word_at 0) (last + 1) w apart
+    below : (n : ℕ) → IsCommit (view_of words) n → n < last + 1
+    below n c = let most = commit-shown words n c in let is = count in omega (arith, most, is)
 
-  counted-other : (w : ℕ) → w ≢ 514 → w ≢ 1025 → get_or counted w 0 ≡ get_or stamped w 0
-  counted-other w a b = get-beside decided last_at (last + 1) w a ∙ decided-other w b
+    abbrev stamped : List ℕ
+    stamped = words_after (stamp_part high rows (last + 1)) words
 
-  idle-other : (w : ℕ) → w ≢ 514 → w ≢ 1024 → w ≢ 1025 → get_or idle w 0 ≡ get_or stamped w 0
-  idle-other w a b c = get-beside counted (state_at 0) 0 w b ∙ counted-other w a c
+    abbrev decided : List ℕ
+    decided = set stamped (commit_word_at 0) (last + 1)
 
-  decided-word : get_or decided (commit_word_at 0) 0 ≡ last + 1
-  decided-word = get-stored stamped (commit_word_at 0) (last + 1) (let s = size in let l = length-stamped in omega (arith, s, l))
+    misses : (w : ℕ) → (w < 2048 + high) ⊎ (2048 + high + rows ≤ w) → w ≢ 517 → footprint (stamp_part high rows (last + 1)) w ≡ false
+    misses w out apart = run-misses (last + 1) born_at 2048 born_is high_at (high + rows) high rows w out apart
 
-  counted-last : get_or counted last_at 0 ≡ last + 1
-  counted-last = get-stored decided last_at (last + 1) (let s = size in let l = length-decided in omega (arith, s, l))
+    within_table : high + rows ≤ 4096
+    within_table = entries.room
 
-  decided-is : IsDecidedMoment words decided rows
-  decided-is =
-      let at = decided-other last_at (λ e. omega (arith, e)) ∙ all-stamped.last in
-      decided-rows decided decided-beside (decided-other (state_at 0) (λ e. omega (arith, e)) ∙ all-stamped.state) (omega (arith, at, is_last)) (omega (arith, at, is_last)) decided-word
-      (λ nth lt. decided-other (entry_at 0 nth) (λ e. omega (arith, e)))
-      (λ w out. decided-other w (λ e. ⊎_elim (λ (is : w ≡ 517). omega (arith, e, is)) (λ (low : 2048 ≤ w). omega (arith, e, low)) out))
+    cut-ruled : (image : List ℕ) → IsBetween words stamped image → IsRuled words image
+    cut-ruled image between = ruled-stamps words image like.fits between.size
+        (λ w out apart. between-kept (stamp_part high rows (last + 1)) words image w between
+        (misses w (⊎_elim (λ (low : w < 2048). inl (omega (arith, low))) (λ (above : 10240 ≤ w). let r = within_table in inr (omega (arith, above, r))) out) apart))
+        (let r = within_table in let before_high = like.fits.high in ⊎_elim
+        (λ (e : get_or image high_at 0 ≡ get_or words high_at 0). omega (arith, e, before_high))
+        (λ (e : get_or image high_at 0 ≡ get_or stamped high_at 0). let is = get-run_last (last + 1) born_at 2048 born_is high_at (high + rows) high rows words (let s = size in omega (arith, s)) in omega (arith, e, is, r))
+        (between.each high_at))
 
-  counted-is : IsDecidedMoment words counted rows
-  counted-is =
-      let at = counted-last in
-      decided-rows counted counted-beside (counted-other (state_at 0) (λ e. omega (arith, e)) (λ e. omega (arith, e)) ∙ all-stamped.state) (omega (arith, at)) (omega (arith, at))
-      (get-beside decided last_at (last + 1) (commit_word_at 0) (λ e. omega (arith, e)) ∙ decided-word)
-      (λ nth lt. counted-other (entry_at 0 nth) (λ e. omega (arith, e)) (λ e. omega (arith, e)))
-      (λ w out. counted-other w (λ e. ⊎_elim (λ (is : w ≡ 517). omega (arith, e, is)) (λ (low : 2048 ≤ w). omega (arith, e, low)) out)
-      (λ e. ⊎_elim (λ (is : w ≡ 517). omega (arith, e, is)) (λ (low : 2048 ≤ w). omega (arith, e, low)) out))
+    size_stamped : length stamped ≡ length words
+    size_stamped = length-words_after (stamp_part high rows (last + 1)) words
 
-  idle-of_stamped : IsOfStamped idle
-  idle-of_stamped w out = ⊎_elim (λ (is : w ≡ 517). idle-other w (λ e. omega (arith, e, is)) (λ e. omega (arith, e, is)) (λ e. omega (arith, e, is)))
-      (λ (low : 2048 ≤ w). idle-other w (λ e. omega (arith, e, low)) (λ e. omega (arith, e, low)) (λ e. omega (arith, e, low))) out
+    decided-ruled : IsRuled words decided
+    decided-ruled =
+        let all = cut-ruled stamped (between-end (stamp_part high rows (last + 1)) words) in
+        let is = between-kept (stamp_part high rows (last + 1)) words stamped last_at (between-end (stamp_part high rows (last + 1)) words) (misses last_at (inl (omega arith)) (λ e. omega (arith, e))) in
+        let at = same_last in
+        ruled-word words stamped all (last + 1) (let s = size in let l = size_stamped in omega (arith, s, l)) (omega (arith, is, at)) (omega (arith, room))
 
-  -- ── the clearing ──
+    -- the commit's own rows
+    own-commit : commit_of decided (last + 1) ≡ record { created = rows_from base high rows; ended = [] }
+    own-commit = commit_of-interval base decided high rows (last + 1) within_table
+        (λ row low above. other (born_at row) (λ e. omega (arith, e)) ∙ get-run (last + 1) born_at 2048 born_is high_at (high + rows) high rows words row low above (let s = size in let r = within_table in omega (arith, s, r)) (λ e. omega (arith, e)))
+        (λ row lt out e. let same = kept-row (born_at row) (omega arith) (⊎_elim (λ (low : row < high). inl (omega (arith, low))) (λ (above : high + rows ≤ row). inr (omega (arith, above))) out) in
+        let read = like.same (born_at row) (reads_are.stamps (born_at row) (omega arith) (omega (arith, lt))) in
+        ⊎_elim (λ (le : get_or base (born_at row) 0 ≤ get_or base last_at 0). omega (arith, e, same, read, le, is_last))
+        (λ (dead : get_or base (born_at row) 0 ≡ 2 ^ 64 - 1). omega (arith, e, same, read, dead, room)) (stage.born row lt))
+        (λ row lt e. let same = kept-row (ended_at row) (omega arith) (inr (let r = within_table in omega (arith, r))) in
+        let read = like.same (ended_at row) (reads_are.stamps (ended_at row) (omega arith) (omega (arith, lt))) in let most = stage.ended row lt in omega (arith, e, same, read, most, is_last))
+        (λ row low above. kept-row (value_at row) (omega arith) (inr (let r = within_table in omega (arith, r))) ∙ like.same (value_at row) (read-value row low above))
+      where
+        other : (w : ℕ) → w ≢ commit_word_at 0 → get_or decided w 0 ≡ get_or stamped w 0
+        other w apart = get_or-set_other stamped (commit_word_at 0) w (last + 1) 0 apart
 
-  clear-misses : (w : ℕ) → (w < 1028) ⊎ (1028 + rows ≤ w) → w ≢ 1025 → footprint (clear_part 0 rows true) w ≡ false
-  clear-misses w out apart = ap (λ (part : Part). footprint part w) (clear_run rows)
-      ∙ run-misses 0 (λ nth. entry_at 0 nth) 1028 entry_is (commit_word_at 0) 0 0 rows w
-      (⊎_elim (λ (low : w < 1028). inl (omega (arith, low))) (λ (above : 1028 + rows ≤ w). inr (omega (arith, above))) out) apart
+        kept-row : (w : ℕ) → 2048 ≤ w → (w < 2048 + high) ⊎ (2048 + high + rows ≤ w) → get_or decided w 0 ≡ get_or words w 0
+        kept-row w low out = other w (λ e. omega (arith, e, low)) ∙ get-run_beside (last + 1) born_at 2048 born_is high_at (high + rows) high rows words w out (λ e. omega (arith, e, low))
 
-  module _ (image : List ℕ) (between : IsBetween idle cleared image) where
-    clear-stays : (w : ℕ) → (w < 1028) ⊎ (1028 + rows ≤ w) → w ≢ 1025 → get_or image w 0 ≡ get_or idle w 0
-    clear-stays w out apart = between-kept (clear_part 0 rows true) idle image w between (clear-misses w out apart)
+    pub decided-shown : IsShown after.commits 0 words decided
+    decided-shown = next-shown words decided like.fits decided-ruled (last + 1) (commits_in base last) after.commits (let is = count in omega (arith, is)) (like.shows ∙ old)
+        (ap (λ (own : WriteSet). commits_in base last ++ own ∷ []) own-commit ∙ sym new)
+        (decided-shows words 0 (last + 1) (range_with_len high rows) [] (high + rows) here size (fits-together words like.fits) below)
 
-    clear-word : get_or image (commit_word_at 0) 0 ≤ last + 1
-    clear-word = ⊎_elim
-        (λ same. let is = same ∙ get-beside counted (state_at 0) 0 (commit_word_at 0) (λ e. omega (arith, e)) ∙ counted-is.commit_word in omega (arith, is, is_last))
-        (λ new. let is = new ∙ commits.clear-word words begun number rows high last stage is_high is_last some room in omega (arith, is))
-        (between.each (commit_word_at 0))
+    pub early-cuts : EachCut (IsShownUntil before after (last + 1) words) (commit_early high rows (last + 1)) words
+    early-cuts =
+        let cut = λ (image : List ℕ) (between : IsBetween words stamped image). quiet-shown words image like.fits (cut-ruled image between) 0 before.commits like.shows
+        (stamps-quiet words 0 (last + 1) (range_with_len high rows) [] (high + rows) here size (fits-together words like.fits) below image between) in
+        let all = cut stamped (between-end (stamp_part high rows (last + 1)) words) in
+        let word = get_or-set_same stamped (commit_word_at 0) (last + 1) 0 (let s = size in let l = size_stamped in omega (arith, s, l)) in (
+          λ image between. inl (cut image between),
+          (cut-one_store (IsShownUntil before after (last + 1) words) (commit_word_at 0) (last + 1) stamped (inl all) (inr (decided-shown, word)), inr (decided-shown, word)),
+        )
 
-    cleared-moment : IsIdleMoment words image
-    cleared-moment =
-        let f = few in
-        idle-rows image
-        (beside-cut words idle image (clear_part 0 rows true) idle-beside between
-        (λ w a. clear-misses w (inl (omega (arith, a))) (λ e. omega (arith, e, a)))
-        (λ w a b. clear-misses w (inl b) (λ e. omega (arith, e, a)))
-        (λ w a b. clear-misses w (inr (omega (arith, a, f))) (λ e. omega (arith, e, a)))
-        (λ w a b. clear-misses w (inr (omega (arith, a, f))) (λ e. omega (arith, e, a)))
-        (λ w a. clear-misses w (inr (omega (arith, a, f))) (λ e. omega (arith, e, a))))
-        (clear-stays (state_at 0) (inl (omega arith)) (λ e. omega (arith, e)) ∙ get-stored counted (state_at 0) 0 (let s = size in let l = length-counted in omega (arith, s, l)))
-        (clear-stays last_at (inl (omega arith)) (λ e. omega (arith, e)) ∙ get-beside counted (state_at 0) 0 last_at (λ e. omega (arith, e)) ∙ counted-last)
-        clear-word
-        (λ w out. ⊎_elim
-        (λ (is : w ≡ 517). clear-stays w (inl (omega (arith, is))) (λ e. omega (arith, e, is)) ∙ idle-of_stamped w (inl is))
-        (λ (low : 2048 ≤ w). clear-stays w (inr (omega (arith, low, f))) (λ e. omega (arith, e, low)) ∙ idle-of_stamped w (inr low)) out)
+  -- ── the second half ──
 
-  idle-is : IsIdleMoment words idle
-  idle-is = cleared-moment idle (between-start idle cleared)
+  abbrev committed : List ℕ
+  committed = finished (commit_early high rows (last + 1)) base
 
-  -- ── what they show ──
+  may-end : MayEnd committed 0 (last + 1) (cleared_places rows)
+  may-end = decided-may_end base 0 (last + 1) (range_with_len high rows) [] (high + rows) may stage.size (cleared_places rows)
+      (λ w hit. let few = entries.few in ⊎_elim (λ (is : w ≡ 1025). (omega (arith, is), omega (arith, is))) (λ entry. let low = entry.0 in let above = entry.1 in (omega (arith, low), omega (arith, above, few))) (is-cleared 0 rows w hit))
 
-  module _ (before after : State) (commits_before : before.commits ≡ commits_in words last) (commits_after : after.commits ≡ commits_in cleared (last + 1))
-      (rows_before : next_row_of before 0 ≡ high + rows) (rows_after : next_row_of after 0 ≡ high + rows) where
-    shown : commit_count words ≡ get_or words last_at 0
-    shown = (stage-shows words running stage).0
+  module _ (after : State) (words : List ℕ) (like : IsLike (commit_reads high rows) after committed words) where
+    size_late : 32768 ≤ length words
+    size_late =
+        let same = like.size in
+        let one = length-words_after (stamp_part high rows (last + 1)) base in
+        let two = length-set (words_after (stamp_part high rows (last + 1)) base) (commit_word_at 0) (last + 1) in
+        let s = stage.size in omega (arith, same, one, two, s)
 
-    old-shown : (image : List ℕ) → IsOpenMoment words image rows → IsShown before before image
-    old-shown image now = open-shown words running fits stage before before image rows now (commits_before ∙ ap (commits_in words) (sym is_last)) (omega (arith, rows_before, is_high)) (omega (arith, rows_before, is_high))
+    here_late : MayEnd words 0 (last + 1) (cleared_places rows)
+    here_late = end-same words committed 0 (last + 1) (cleared_places rows) (commit_reads high rows) reads_are like.same may-end
 
-    decided-shown : (image : List ℕ) → IsOfStamped image → IsDecidedMoment words image rows → IsShown before after image
-    decided-shown image same now =
-        let shows = decided-shows words image running stage rows (omega (arith, some)) now in
-        let count : commit_count image ≡ last + 1 = shows.0 ∙ ap (λ (n : ℕ). n + 1) is_last in
-        let next = shows.1 in
-        record {
-          fits = moment-fits words image running fits stage (decided-moment words image running stage rows (omega (arith, some)) now) shown;
-          commits = ap (commits_in image) count ∙ same-commits image same ∙ sym commits_after;
-          least = omega (arith, next, rows_before, is_high);
-          most = omega (arith, next, rows_after, is_high);
-        }
+    abbrev lasted : List ℕ
+    lasted = set words last_at (last + 1)
 
-    idle-shown : (image : List ℕ) → IsOfStamped image → get_or image last_at 0 ≡ last + 1 → IsIdleMoment words image → IsShown before after image
-    idle-shown image same is now =
-        let shows = idle-shows words image running stage now in
-        let count : commit_count image ≡ last + 1 = shows.0 ∙ is in
-        let next = shows.1 in
-        let up : get_or image high_at 0 ≡ get_or words high_at 0 + rows = same high_at (inl refl) ∙ is_high-stamped in
-        record {
-          fits = moment-fits words image running fits stage (idle-moment words image running stage now) shown;
-          commits = ap (commits_in image) count ∙ same-commits image same ∙ sym commits_after;
-          least = omega (arith, next, up, rows_before, is_high);
-          most = omega (arith, next, up, rows_after, is_high);
-        }
+    abbrev closed : List ℕ
+    closed = set lasted (state_at 0) 0
 
-    abbrev IsEarly : List ℕ → Type 0
-    IsEarly image = IsShown before before image ⊎ (IsShown before after image × (get_or image (commit_word_at 0) 0 ≡ last + 1))
+    start : IsRuled words words
+    start = ruled-self words like.fits
 
-    decided-then : IsShown before after decided
-    decided-then = decided-shown decided (λ w out. decided-other w (λ e. ⊎_elim (λ (is : w ≡ 517). omega (arith, e, is)) (λ (low : 2048 ≤ w). omega (arith, e, low)) out)) decided-is
+    lasted-ruled : IsRuled words lasted
+    lasted-ruled = ruled-last words words start (last + 1) (let s = size_late in omega (arith, s)) here_late.least (omega (arith, room))
 
-    counted-then : IsShown before after counted
-    counted-then = decided-shown counted (λ w out. counted-other w (λ e. ⊎_elim (λ (is : w ≡ 517). omega (arith, e, is)) (λ (low : 2048 ≤ w). omega (arith, e, low)) out)
-        (λ e. ⊎_elim (λ (is : w ≡ 517). omega (arith, e, is)) (λ (low : 2048 ≤ w). omega (arith, e, low)) out)) counted-is
+    closed-ruled : IsRuled words closed
+    closed-ruled = ruled-state words lasted lasted-ruled 0 (let s = size_late in let l = length-set words last_at (last + 1) in omega (arith, s, l)) (omega arith) (λ e. absurd (omega (arith, e)))
 
-    clear-then : (image : List ℕ) → IsBetween idle cleared image → IsShown before after image
-    clear-then image between =
-        let f = few in
-        idle-shown image (λ w out. ⊎_elim
-        (λ (is : w ≡ 517). clear-stays image between w (inl (omega (arith, is))) (λ e. omega (arith, e, is)) ∙ idle-of_stamped w (inl is))
-        (λ (low : 2048 ≤ w). clear-stays image between w (inr (omega (arith, low, f))) (λ e. omega (arith, e, low)) ∙ idle-of_stamped w (inr low)) out)
-        (clear-stays image between last_at (inl (omega arith)) (λ e. omega (arith, e)) ∙ get-beside counted (state_at 0) 0 last_at (λ e. omega (arith, e)) ∙ counted-last)
-        (cleared-moment image between)
+    closed_idle : get_or closed (state_at 0) 0 ≡ 0
+    closed_idle = get_or-set_same lasted (state_at 0) 0 0 (let s = size_late in let l = length-set words last_at (last + 1) in omega (arith, s, l))
 
-    pub early-cuts : EachCut IsEarly (commit_early high rows (last + 1)) words
-    early-cuts = (
-      λ image between. inl (old-shown image (stamped-moment image between)),
-      (cut-one_store IsEarly (commit_word_at 0) (last + 1) stamped (inl (old-shown stamped all-stamped)) (inr (decided-then, decided-word)), inr (decided-then, decided-word)),
-    )
+    clear-ruled : (image : List ℕ) → IsBetween closed (words_after (stores 0 (cleared_places rows)) closed) image → IsRuled words image
+    clear-ruled image between =
+        let part = clear_part-is rows in
+        ruled-cleared words closed image closed-ruled closed_idle between.size
+        (λ w out. kept w (far w out) (beside w out))
+        (⊎_elim (λ same. inl same)
+        (λ (now : get_or image (commit_word_at 0) 0 ≡ get_or (words_after (stores 0 (cleared_places rows)) closed) (commit_word_at 0) 0).
+        inr (now ∙ ap (λ (p : Part). get_or (words_after p closed) 1025 0) (sym (clear_part-is rows) ∙ clear_run rows)
+        ∙ get-run_last 0 (λ nth. entry_at 0 nth) 1028 entry_is (commit_word_at 0) 0 0 rows closed
+        (let s = size_late in let l = length-set words last_at (last + 1) in let m = length-set lasted (state_at 0) 0 in omega (arith, s, l, m))))
+        (between.each (commit_word_at 0)))
+      where
+        far : (w : ℕ) → (w < 1025) ⊎ (((1026 ≤ w) × (w < 1028)) ⊎ (1088 ≤ w)) → (w < 1028) ⊎ (1028 + rows ≤ w)
+        far w (inl low) = inl (omega (arith, low))
+        far w (inr (inl middle)) = inl middle.1
+        far w (inr (inr above)) = let f = entries.few in inr (omega (arith, above, f))
 
-    pub late-cuts : EachCut (IsShown before after) (commit_late rows (last + 1)) (finished (commit_early high rows (last + 1)) words)
-    late-cuts = (
-      cut-one_store (IsShown before after) last_at (last + 1) decided decided-then counted-then,
-      (
-        cut-one_store (IsShown before after) (state_at 0) 0 counted counted-then (clear-then idle (between-start idle cleared)),
-        each_cut-unless_empty (IsShown before after) (clear_part 0 rows true) idle clear-then,
-      ),
-    )
+        beside : (w : ℕ) → (w < 1025) ⊎ (((1026 ≤ w) × (w < 1028)) ⊎ (1088 ≤ w)) → w ≢ 1025
+        beside w (inl low) e = omega (arith, e, low)
+        beside w (inr (inl middle)) e = let low = middle.0 in omega (arith, e, low)
+        beside w (inr (inr above)) e = omega (arith, e, above)
+
+        kept : (w : ℕ) → (w < 1028) ⊎ (1028 + rows ≤ w) → w ≢ 1025 → get_or image w 0 ≡ get_or closed w 0
+        kept w out apart = between-kept (stores 0 (cleared_places rows)) closed image w between
+            (ap (λ (p : Part). footprint p w) (sym (clear_part-is rows) ∙ clear_run rows)
+            ∙ run-misses 0 (λ nth. entry_at 0 nth) 1028 entry_is (commit_word_at 0) 0 0 rows w
+            (⊎_elim (λ (low : w < 1028). inl (omega (arith, low))) (λ (above : 1028 + rows ≤ w). inr (omega (arith, above))) out) apart)
+
+    pub late-cuts : EachCut (IsShown after.commits 0 words) (ending.commit_late 0 (last + 1) (cleared_places rows)) words
+    late-cuts =
+        let quiet = endings.late-cuts words 0 (last + 1) (cleared_places rows) here_late size_late (fits-together words like.fits) in
+        let shown = λ (image : List ℕ) (q : IsQuiet 0 words image) (r : IsRuled words image). quiet-shown words image like.fits r 0 after.commits like.shows q in (
+          cut-one_store (IsShown after.commits 0 words) last_at (last + 1) words (shown words (quiet.0 words (between-self words lasted)) start) (shown lasted (quiet.1.0 lasted (between-self lasted closed)) lasted-ruled),
+          (
+            cut-one_store (IsShown after.commits 0 words) (state_at 0) 0 lasted (shown lasted (quiet.1.0 lasted (between-self lasted closed)) lasted-ruled)
+                (shown closed (quiet.1.1.0 closed (between-self closed (words_after (stores 0 (cleared_places rows)) closed))) closed-ruled),
+            (
+              λ image between. shown image (quiet.1.1.0 image between) (clear-ruled image between),
+              (let all = between-end (stores 0 (cleared_places rows)) closed in shown (words_after (stores 0 (cleared_places rows)) closed) quiet.1.1.1 (clear-ruled (words_after (stores 0 (cleared_places rows)) closed) all)),
+            ),
+          ),
+        )
+      where
+        between-self : (old new : List ℕ) → IsBetween old new old
+        between-self old new = record { size = refl; each = λ w. inl refl }

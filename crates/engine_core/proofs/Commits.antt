@@ -57,6 +57,27 @@ commit_parts-five first count number =
     ap (λ (parts : List Part). stamp_part first count number ∷ one_store (commit_word_at 0) number ∷ one_store last_at number ∷ one_store (state_at 0) 0 ∷ parts)
     (unless_empty-last (entry_clears 0 count) (store (commit_word_at 0) 0))
 
+-- a commit that created so many rows from the first on, and ended none
+pub commit_of-interval : (base image : List ℕ) (first count number : ℕ) → first + count ≤ 4096
+    → ((row : ℕ) → first ≤ row → row < first + count → get_or image (born_at row) 0 ≡ number)
+    → ((row : ℕ) → row < 4096 → (row < first) ⊎ (first + count ≤ row) → get_or image (born_at row) 0 ≢ number)
+    → ((row : ℕ) → row < 4096 → get_or image (ended_at row) 0 ≢ number)
+    → ((row : ℕ) → first ≤ row → row < first + count → get_or image (value_at row) 0 ≡ get_or base (value_at row) 0)
+    → commit_of image number ≡ record { created = rows_from base first count; ended = [] }
+commit_of-interval base image first count number within own other ended values =
+    ap (λ (xs : List ℕ). record { created = map (created_row image) xs; ended = map key_of (rows_where (λ row. eqb (get_or image (ended_at row) 0) number)) }) rows
+    ∙ ap (λ (xs : List ℕ). record { created = rows_from image first count; ended = map key_of xs }) ends
+    ∙ ap (λ (xs : List CreatedRow). record { created = xs; ended = [] }) (rows_from-same base image first count values)
+  where
+    rows : rows_where (λ row. eqb (get_or image (born_at row) 0) number) ≡ range_with_len first count
+    rows = rows_where-interval (λ row. eqb (get_or image (born_at row) 0) number) first count within
+        (λ row lt. ne_eqb (get_or image (born_at row) 0) number (other row (omega (arith, lt, within)) (inl lt)))
+        (λ row low above. eq-eqb (get_or image (born_at row) 0) number (own row low above))
+        (λ row above lt. ne_eqb (get_or image (born_at row) 0) number (other row lt (inr above)))
+
+    ends : rows_where (λ row. eqb (get_or image (ended_at row) 0) number) ≡ []
+    ends = rows_where-none (λ row. eqb (get_or image (ended_at row) 0) number) (λ row lt. ne_eqb (get_or image (ended_at row) 0) number (ended row lt))
+
 module _ (words : List ℕ) (begun number rows high last : ℕ) (stage : IsStage words (Some (record { number = number; rows = rows })))
     (is_high : get_or words high_at 0 ≡ high) (is_last : get_or words last_at 0 ≡ last) (some : 0 < rows) (room : last < MAX_COMMITS) where
   size : 32768 ≤ length words
@@ -173,21 +194,11 @@ module _ (words : List ℕ) (begun number rows high last : ℕ) (stage : IsStage
   fresh : (row : ℕ) → row < 4096 → get_or words (born_at row) 0 ≢ last + 1
   fresh row lt e = ⊎_elim (λ (le : get_or words (born_at row) 0 ≤ get_or words last_at 0). omega (arith, le, e, is_last)) (λ (dead : get_or words (born_at row) 0 ≡ 2 ^ 64 - 1). omega (arith, dead, e, room)) (stage.born row lt)
 
-  commit_rows : rows_where (λ row. eqb (get_or cleared (born_at row) 0) (last + 1)) ≡ range_with_len high rows
-  commit_rows = rows_where-interval (λ row. eqb (get_or cleared (born_at row) 0) (last + 1)) high rows within
-      (λ row lt. let is = kept_born row (inl lt) in ne_eqb (get_or cleared (born_at row) 0) (last + 1) (λ e. fresh row (let r = within in omega (arith, r, lt)) (sym is ∙ e)))
-      (λ row low above. eq-eqb (get_or cleared (born_at row) 0) (last + 1) (new_born row low above))
-      (λ row above lt. let is = kept_born row (inr above) in ne_eqb (get_or cleared (born_at row) 0) (last + 1) (λ e. fresh row lt (sym is ∙ e)))
-
-  commit_ends : rows_where (λ row. eqb (get_or cleared (ended_at row) 0) (last + 1)) ≡ []
-  commit_ends = rows_where-none (λ row. eqb (get_or cleared (ended_at row) 0) (last + 1))
-      (λ row lt. let is = kept_ended row in let old = stage.ended row lt in ne_eqb (get_or cleared (ended_at row) 0) (last + 1) (λ e. omega (arith, is, old, e, is_last)))
-
   commit_is : commit_of cleared (last + 1) ≡ record { created = rows_from words high rows; ended = [] }
-  commit_is =
-      ap (λ (xs : List ℕ). record { created = map (created_row cleared) xs; ended = map key_of (rows_where (λ row. eqb (get_or cleared (ended_at row) 0) (last + 1))) }) commit_rows
-      ∙ ap (λ (xs : List ℕ). record { created = rows_from cleared high rows; ended = map key_of xs }) commit_ends
-      ∙ ap (λ (xs : List CreatedRow). record { created = xs; ended = [] }) (rows_from-same words cleared high rows (λ row low above. kept_value row))
+  commit_is = commit_of-interval words cleared high rows (last + 1) within new_born
+      (λ row lt out e. fresh row lt (sym (kept_born row out) ∙ e))
+      (λ row lt e. let is = kept_ended row in let old = stage.ended row lt in omega (arith, is, old, e, is_last))
+      (λ row low above. kept_value row)
 
   pub commit-commits : commits_in cleared (last + 1) ≡ commits_in words last ++ record { created = rows_from words high rows; ended = [] } ∷ []
   commit-commits =
@@ -271,7 +282,6 @@ module _ (words : List ℕ) (begun number rows high last : ℕ) (stage : IsStage
         stage = rw after commit-stage;
         full = tt;
         memory = tt;
-        below = tt;
         planned = is_actions ∙ ap (λ (n : ℕ). plan_of (commit_parts n rows commit)) first_is
             ∙ ap (λ (n : ℕ). plan_of (commit_parts (get_or words high_at 0 + rows - n) n commit)) (sym (length-rows_from words (get_or words high_at 0) rows));
         short = short;
@@ -313,7 +323,6 @@ close-decided words begun number rows stage actions none is_actions short =
           ∙ ap (λ (xs : List ℕ). state_of xs (record { begun = begun; running = None })) (sym after);
       full = tt;
       memory = tt;
-      below = tt;
       planned = is_actions;
       stage = rw after (switch-stage words 0 (Some (record { number = number; rows = rows })) None stage none refl refl);
       short = short;

@@ -22,9 +22,8 @@ use Rattle.engine_core.specs.Stage.{high_at, born_at, ended_at, value_at}
 use Rattle.engine_core.specs.StagePlans.{created_entry, insert_parts}
 use Rattle.engine_core.specs.StageRules.{IsStage, state_word}
 use Rattle.engine_core.specs.Served.{insert_of}
-use Rattle.mv_model.specs.View.{next_row_of}
 use Rattle.engine_core.specs.Actions.{plan_due}
-use Rattle.engine_core.specs.Decided.{IsDecided, IsFullWhere, IsNoMemoryWhere, IsRowBelow, TakesMemory}
+use Rattle.engine_core.specs.Decided.{IsDecided, IsFullWhere, IsNoMemoryWhere, TakesMemory}
 use Rattle.engine_core.specs.LogicalState.{commits_in, created_row, integer_of, key_of, key_word_of, rows_from, rows_of, state_by, state_of}
 use Rattle.engine_core.specs.declared.transactions.Transactions.{Transactions}
 use Rattle.engine_core.specs.declared.transactions.Running.{Running}
@@ -35,8 +34,8 @@ use Rattle.engine_core.proofs.Stores.{words_after-plan, get-stored, get-beside}
 -- a refusal, or a reading
 pub refused : (words : List ℕ) (now : Transactions) (call : Call) (given : Reply) → IsStage words now.running → IsAllowed (state_of words now) 1 call given
     → next (state_of words now) 1 call given ≡ state_of words now → IsFullWhere (state_of words now) given
-    → IsRowBelow (next_row_of (state_of words now) 0) given → [] ≡ plan_due (state_of words now) call given → IsNoMemoryWhere (state_of words now) call given → IsDecided words now call given [] now
-refused words now call given stage allowed same full below planned memory = record {
+    → [] ≡ plan_due (state_of words now) call given → IsNoMemoryWhere (state_of words now) call given → IsDecided words now call given [] now
+refused words now call given stage allowed same full planned memory = record {
   allowed = allowed;
   parts = [];
   plan = tt;
@@ -45,7 +44,6 @@ refused words now call given stage allowed same full below planned memory = reco
   stage = stage;
   full = full;
   memory = memory;
-  below = below;
   planned = planned;
   short = omega arith;
   begun = omega arith;
@@ -125,7 +123,6 @@ module _ (words : List ℕ) (begun : ℕ) (stage : IsStage words None) where
         state = rw (is_snapshot, after) (begin-next (get_or words high_at 0 + 0) commits begun (begun + 1) (get_or words last_at 0) ∙ sym begin-state);
         full = tt;
         memory = tt;
-        below = tt;
         planned = is_actions;
         stage = rw after (switch-stage words 1 None (Some (record { number = begun + 1; rows = 0 })) stage refl refl refl);
         short = short;
@@ -236,7 +233,6 @@ module _ (words : List ℕ) (begun number rows : ℕ) (stage : IsStage words (So
         stage = rw after insert-stage;
         full = (fewer, omega (arith, count, few));
         memory = tt;
-        below = rw after (let h = insert-beside high_at (λ e. omega (arith, e)) (λ e. omega (arith, e)) in omega (arith, h, is_row));
         planned = is_actions ∙ ap (λ (n : ℕ). plan_of (insert_parts n row word)) (sym count) ∙ ap (λ (w : ℕ). plan_of (insert_parts (length created) row w)) is_word;
         short = short;
         begun = omega arith;
@@ -258,7 +254,7 @@ insert-full words begun number rows value stage none =
     let due : answer (state_of words before) 1 (insert_of value) ≡ reply.Row (high + rows) =
     insert-answer (high + rows) (commits_in words last) begun number last created value (omega (arith, count, few)) (omega (arith, room)) in
     refused words before (insert_of value) (reply.Full 1 0) stage (subst (λ (given : Reply). IsTrue (needs_room given)) (sym due) refl) refl
-    (refl, refl, ⊎_elim (λ (many : 60 ≤ rows). inr (omega (arith, many, few, count))) (λ (many : 4096 ≤ high + rows). inl (omega (arith, many, room))) none) tt refl tt
+    (refl, refl, ⊎_elim (λ (many : 60 ≤ rows). inr (omega (arith, many, few, count))) (λ (many : 4096 ≤ high + rows). inl (omega (arith, many, room))) none) refl tt
 
 -- an insert takes memory where the table has a row, and the object an entry
 pub insert-takes : (words : List ℕ) (begun number rows : ℕ) (value : ℤ) → rows < 60 → get_or words high_at 0 + rows < 4096

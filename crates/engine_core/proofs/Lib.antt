@@ -17,10 +17,9 @@ pub mod Alone
 pub mod Safeties
 pub mod Played
 pub mod ImageFacts
-pub mod ImageNumbers
-pub mod RunningFits
-pub mod RunningMoments
-pub mod RunningCuts
+pub mod Entries
+pub mod Ruled
+pub mod Shown
 pub mod CommitCuts
 pub mod Survivals
 pub mod Recoveries

@@ -1,5 +1,5 @@
 -- A core over the words of an image that was opened.
-use Rattle.std.proofs.Common.{◌≡◌, inl, ⊎_elim, ℕ, ◌≤◌, true, List, [], length, None, Some, Option, refl, sym, ◌∙◌, ap, subst, arith}
+use Rattle.std.proofs.Common.{◌≡◌, inl, ⊎_elim, ℕ, ◌<◌, ◌≤◌, true, List, [], length, get_or, None, Some, Option, refl, sym, ◌∙◌, ap, subst, arith}
 use Rattle.std.specs.Prelude.{option_map}
 use Rattle.std.proofs.lemmas.Bool.{cases_eq}
 use Rattle.std.proofs.lemmas.List.Elements.{All-nil}
@@ -7,6 +7,7 @@ use Rattle.mv_model.specs.declared.reply.Entry.{Entry}
 use Rattle.pm_model.specs.declared.action.Action.{Action}
 use Rattle.pm_model.specs.Device.{Device, IsCrashImage}
 use Rattle.pm_model.specs.Plans.{at_rest, run, plan_of}
+use Rattle.image_layout.specs.Fixed.{state_at}
 use Rattle.image_layout.specs.Checks.{Fault, Keeps, first_failing, first_fault, or_else}
 use Rattle.image_layout.proofs.Faults.{all_hold, first_failing-none}
 use Rattle.engine_core.specs.StageRules.{IsStage}
@@ -21,7 +22,7 @@ use Rattle.engine_core.specs.declared.flight.Flight.TheVariants as flight
 use Rattle.engine_core.specs.declared.transactions.Transactions.{Transactions}
 use Rattle.engine_core.proofs.Recoveries.{fits-now}
 use Rattle.engine_core.specs.LogicalState.{next_row}
-use Rattle.engine_core.proofs.RunningCuts.{logical-stage}
+use Rattle.engine_core.proofs.FreshCore.{logical-idle}
 use Rattle.engine_core.proofs.ImageRules.{entered}
 use Rattle.engine_core.proofs.FitsSound.{closed-is, closed-kept, stamped-is, closed-end, list_entry, accepted-none, entry_list, sound-fits, fits-recoverable}
 use Rattle.engine_core.proofs.FitsCuts.{rules-now}
@@ -53,6 +54,13 @@ stage-sound words size sound =
       others = λ object low lt. closed.idle object lt;
     }
 
+-- no object is open
+idle-objects : (words : List ℕ) → IsStage words None → (object : ℕ) → object < 16 → get_or words (state_at object) 0 ≡ 0
+idle-objects words stage object lt = ⊎_elim
+    (λ (is : object ≡ 0). ap (λ (k : ℕ). get_or words (state_at k) 0) is ∙ stage.state)
+    (λ apart. stage.others object (omega (arith, apart)) lt)
+    (cases_eq object 0)
+
 -- A core begins on a device at rest whose words fit together, with no transaction open.
 kept-rests : (words : List ℕ) → Fits words → IsStage words None → IsKept (at_rest words) words [] (record { begun = 0; running = None }) [] flight.Idle 0 0 0
 kept-rests words fits stage = record {
@@ -62,7 +70,7 @@ kept-rests words fits stage = record {
   others = λ session w apart. refl;
   plan = refl;
   legal = record { follows = tt; numbered = λ session. refl };
-  represents = logical-stage words (record { begun = 0; running = None }) stage;
+  represents = logical-idle words (idle-objects words stage);
   stage = stage;
   safe = holds-rests 17 (IsSafe words [] []) words (λ left none. record {
     fits = fits;

@@ -58,14 +58,14 @@ module _ (words : List ℕ) (begun number rows row : ℕ) where
       (record { begun = begun; running = Some (record { number = number; rows = rows }) })
   get-seen stage seen =
       refused words (record { begun = begun; running = Some (record { number = number; rows = rows }) }) (get_of row) (reply.Values (Int (integer_of (get_or words (value_at row) 0)) ∷ [])) stage
-      (sym (get-due ∙ ap (λ (b : Bool). cond b (reply.Values (Int (integer_of (get_or words (value_at row) 0)) ∷ [])) reply.NoRow) seen)) refl tt tt refl tt
+      (sym (get-due ∙ ap (λ (b : Bool). cond b (reply.Values (Int (integer_of (get_or words (value_at row) 0)) ∷ [])) reply.NoRow) seen)) refl tt refl tt
 
   pub get-unseen : IsStage words (Some (record { number = number; rows = rows })) → is_seen words rows row ≡ false
       → IsDecided words (record { begun = begun; running = Some (record { number = number; rows = rows }) }) (get_of row) reply.NoRow []
       (record { begun = begun; running = Some (record { number = number; rows = rows }) })
   get-unseen stage unseen =
       refused words (record { begun = begun; running = Some (record { number = number; rows = rows }) }) (get_of row) reply.NoRow stage
-      (sym (get-due ∙ ap (λ (b : Bool). cond b (reply.Values (Int (integer_of (get_or words (value_at row) 0)) ∷ [])) reply.NoRow) unseen)) refl tt tt refl tt
+      (sym (get-due ∙ ap (λ (b : Bool). cond b (reply.Values (Int (integer_of (get_or words (value_at row) 0)) ∷ [])) reply.NoRow) unseen)) refl tt refl tt
 
   -- the reading of a row that is seen takes memory
   pub get-takes : is_seen words rows row ≡ true

@@ -20,8 +20,9 @@ use Rattle.side_by_side.specs.SideBySide.{left_of}
 use Rattle.side_by_side.proofs.Cutting.{holds-now}
 use Rattle.image_layout.specs.Fixed.{last_at, commit_word_at}
 use Rattle.engine_core.specs.CoreState.{IsDueNext, due, in_flight_of, unanswered}
-use Rattle.engine_core.specs.Decided.{IsRowBelow, none_open}
+use Rattle.engine_core.specs.Decided.{none_open}
 use Rattle.engine_core.specs.Kept.{IsDecidedIn, IsGivenBelow, IsKept, IsSafe, Recovers, ShowsAfter, has_place, standing}
+use Rattle.engine_core.specs.Survival.{IsRowBelow}
 use Rattle.engine_core.specs.LogicalState.{commit_count, commits_in, logical_state, next_row, state_of, table_of}
 use Rattle.engine_core.specs.Recoverable.{Fits, IsGiven, IsRecoveryOf, MayRecoverTo, table_drawn, undecided, without_rows}
 use Rattle.engine_core.specs.declared.flight.Flight.{Flight}

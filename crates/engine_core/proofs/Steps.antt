@@ -1,5 +1,5 @@
 -- Each event keeps what a core keeps.
-use Rattle.std.proofs.Common.{◌≡◌, ◌≢◌, inl, inr, ℕ, ◌+◌, ◌<◌, ◌≤◌, ◌∙◌, true, false, List, [], ◌∷◌, ◌++◌, length, Option, None, Some, refl, ap, sym, subst, append-nil, arith}
+use Rattle.std.proofs.Common.{◌≡◌, ◌≢◌, inl, inr, ℕ, ◌+◌, ◌<◌, ◌≤◌, ◌∙◌, Bool, true, false, List, [], ◌∷◌, ◌++◌, length, Option, None, Some, refl, ap, sym, subst, append-nil, arith}
 use Rattle.std.specs.Prelude.{IsTrue}
 use Rattle.std.proofs.lemmas.Grind.{flat_map-append}
 use Rattle.std.proofs.lemmas.List.{length-append}
@@ -12,20 +12,19 @@ use Rattle.mv_model.specs.declared.reply.Entry.{Entry}
 use Rattle.mv_model.specs.State.{State}
 use Rattle.mv_model.specs.History.{IsAllowed, IsLegal, state_after}
 use Rattle.mv_model.specs.Next.{next}
-use Rattle.mv_model.specs.View.{next_row_of}
 use Rattle.pm_model.specs.declared.action.Action.{Action}
 use Rattle.pm_model.specs.Device.{Device, acted, CanAct}
-use Rattle.pm_model.specs.ManyPlans.{Progress}
-use Rattle.pm_model.specs.Plans.{Part, IsPlan, EachCut, finished, part_actions, plan_of, words_after}
-use Rattle.pm_model.proofs.Cuts.{each_cut-end, each_cut-start}
+use Rattle.pm_model.specs.Plans.{Part, IsPlan, finished, part_actions, plan_of, words_after}
+use Rattle.pm_model.proofs.Cuts.{each_cut-end}
 use Rattle.pm_model.proofs.Words.{ext_words}
 use Rattle.image_layout.specs.Fixed.{commit_word_at}
-use Rattle.side_by_side.specs.SideBySide.{Plans, left_of, advanced, ArePlaying, HoldsAtEachCut}
+use Rattle.pm_model.specs.ManyPlans.{Progress}
+use Rattle.side_by_side.specs.SideBySide.{Plans, left_of, advanced, ArePlaying, HoldsAtEachCut, without}
 use Rattle.side_by_side.proofs.Cutting.{can-act, holds-now}
 use Rattle.side_by_side.proofs.Joining.{holds-map}
 use Rattle.engine_core.specs.Actions.{late_in, plan_due}
 use Rattle.engine_core.specs.Recoverable.{Fits}
-use Rattle.engine_core.specs.Survival.{IsShown, IsShownUntil, IsSurvived, SurvivesCuts, SurvivesInHalves}
+use Rattle.engine_core.specs.Survival.{IsLike, IsShown, IsShownUntil, IsSurvived, SurvivesCuts, SurvivesInHalves, commit_reads, shown_commits}
 use Rattle.engine_core.specs.Decided.{IsDecided, IsLateIn, IsOpenStill, IsPlacedLate, at_place, none_open}
 use Rattle.engine_core.specs.LogicalState.{logical_state, next_row, state_of}
 use Rattle.engine_core.specs.StagePlans.{commit_early, commit_late}
@@ -37,12 +36,11 @@ use Rattle.engine_core.specs.declared.decision.Late.{Late}
 use Rattle.engine_core.specs.declared.flight.Flight.{Flight}
 use Rattle.engine_core.specs.declared.flight.Flight.TheVariants as flight
 use Rattle.engine_core.specs.declared.transactions.Transactions.{Transactions}
-use Rattle.engine_core.proofs.Alone.{alone-with, joined, joined-alone, joined-holds, joined-one, joined-playing, joined-stands, moved, moved-holds, moved-left, moved-one, moved-playing, moved-stands, rested, rested-cached, rested-clean, rested-holds, rested-idle, rested-playing, rested-stands, stands-waiting, survives-alone}
+use Rattle.engine_core.proofs.Alone.{alone-with, joined, joined-alone, joined-holds, joined-one, joined-playing, joined-stands, moved, moved-holds, moved-left, moved-one, moved-playing, moved-stands, rested, rested-cached, rested-clean, rested-holds, rested-idle, rested-playing, rested-stands, stands-waiting, survives-like}
 use Rattle.engine_core.proofs.Histories.{legal-answered, legal-more, of_one-answered, of_one-last, of_one-more, state_after-answered, state_after-more}
 use Rattle.engine_core.proofs.Placing.{committing-plays, first-over, next_of}
 use Rattle.engine_core.proofs.Played.{certain-less, certain-now, ends-certain, played-answered, played-decided, played-more}
-use Rattle.engine_core.proofs.RunningCuts.{stage-shows}
-use Rattle.engine_core.proofs.Safeties.{answered-safe, certain-safe, decided-ends, decided-safe, placed-safe, until-ends, until-safe}
+use Rattle.engine_core.proofs.Safeties.{answered-safe, certain-safe, decided-ends, decided-safe, placed-safe, safe-shows, until-ends, until-safe}
 use Rattle.engine_core.proofs.Stores.{words_after-plan}
 
 module _ (opened : List ℕ) where
@@ -165,11 +163,15 @@ module _ (opened : List ℕ) where
       let rest_playing = rested-playing plans kept.base after playing others gone in
       let rest_idle = rested-idle plans kept.base after playing others gone after.cached in
       let plan : IsPlan (length after.cached) second = subst (λ (n : ℕ). IsPlan n second) (playing.size) h.plan.1.1 in
-      let cuts : EachCut (IsShown before then) second after.cached = subst (EachCut (IsShown before then) second) words h.later in
-      let few : next_row after.cached ≤ next_row_of before 0 = (let most = (each_cut-start (IsShown before then) second after.cached cuts).most in let same = h.rows in omega (arith, most, same)) in
-      let law = survives-alone placed placed (IsShown before then) (IsShown before then) after.cached second plan cuts (each_cut-end (IsShown before then) second after.cached cuts)
-      (λ counts image safe some shown. certain-safe opened history before then is_before number (length history + 1) h.rows is_then counts after.cached image few safe shown)
-      (λ counts image safe nothing shown. certain-safe opened history before then is_before number (length history + 1) h.rows is_then counts after.cached image few safe shown) in
+      let moved_safe = rested-holds plans kept.base after playing others gone placed certain in
+      let safe = holds-now 17 rest_plans after.cached after rest_playing placed moved_safe after.cached (record { size = sym rest_playing.whole; each = λ w. inr refl }) in
+      let like : IsLike (commit_reads h.first h.count) then after.cached after.cached = record { size = refl; same = λ w hit. refl; fits = safe.fits; shows = safe-shows opened (history ++ entry ∷ []) then is_then (λ s. length (left_of (rest_plans s))) after.cached safe } in
+      let law = survives-like placed placed then (IsShown then.commits 0) (IsShown then.commits 0) (commit_reads h.first h.count) after.cached second plan like
+      (λ now_words here. h.later now_words (subst (λ (ws : List ℕ). IsLike (commit_reads h.first h.count) then ws now_words) (sym words) here))
+      (λ now_words here. each_cut-end (IsShown then.commits 0 now_words) second now_words (h.later now_words (subst (λ (ws : List ℕ). IsLike (commit_reads h.first h.count) then ws now_words) (sym words) here)))
+      (λ counts now_words safe. (safe.fits, safe-shows opened (history ++ entry ∷ []) then is_then (without 1 counts) now_words safe))
+      (λ counts now_words image safe some shown. certain-safe opened (history ++ entry ∷ []) then is_then counts now_words image safe shown)
+      (λ counts now_words image safe nothing shown. certain-safe opened (history ++ entry ∷ []) then is_then counts now_words image safe shown) in
       let reached : words_after way.actions kept.base ≡ standing (joined rest_plans after rest_playing rest_idle second plan) [] after.cached =
       ap (λ (xs : List Action). words_after xs kept.base) h.plan_is ∙ words_after-plan (early ++ second) kept.base ∙ ap (finished second) words
       ∙ sym (joined-stands rest_plans after rest_playing rest_idle second plan (has_place []) refl) in
@@ -182,7 +184,7 @@ module _ (opened : List ℕ) where
         legal = legal-more (logical_state opened) history entry kept.legal kept.alone refl refl (subst (λ (s : State). IsAllowed s 1 call.Commit (reply.Committed number)) (sym is_before) way.decided.allowed);
         represents = is_then ∙ ap (λ (ws : List ℕ). state_of ws (none_open now)) reached;
         stage = subst (λ (ws : List ℕ). IsStage ws None) reached way.decided.stage;
-        safe = joined-holds rest_plans after rest_playing rest_idle second plan placed placed law (rested-holds plans kept.base after playing others gone placed certain);
+        safe = joined-holds rest_plans after rest_playing rest_idle second plan placed placed (commit_reads h.first h.count) law moved_safe;
         answers = record { front = history; last = entry; is = refl; given_before = kept.answers; open_still = refl; reply = refl };
         alone = of_one-more history entry kept.alone refl;
         count = let c = kept.count in omega (arith, c, size_more);
@@ -231,11 +233,16 @@ module _ (opened : List ℕ) where
     pub stage_now : IsStage d.cached now.running
     stage_now = subst (λ (ws : List ℕ). IsStage ws now.running) stood kept.stage
 
-    fits_now : Fits d.cached
-    fits_now = (holds-now 17 kept.plans kept.base d kept.playing (IsSafe opened history []) kept.safe d.cached (record { size = sym kept.playing.whole; each = λ w. inr refl })).fits
+    safe_now : IsSafe opened history [] (λ s. length (left_of (kept.plans s))) d.cached
+    safe_now = holds-now 17 kept.plans kept.base d kept.playing (IsSafe opened history []) kept.safe d.cached (record { size = sym kept.playing.whole; each = λ w. inr refl })
 
-    rows_now : next_row d.cached ≡ next_row_of (state_of d.cached now) 0
-    rows_now = let shows = stage-shows d.cached now.running stage_now in let next = shows.1 in omega (arith, next)
+    -- a plan may rest on any places of them
+    like_now : (reads : ℕ → Bool) → IsLike reads (state_of d.cached now) d.cached d.cached
+    like_now reads = record { size = refl; same = λ w hit. refl; fits = safe_now.fits; shows = safe-shows opened history (state_of d.cached now) state_now (λ s. length (left_of (kept.plans s))) d.cached safe_now }
+
+    -- what is safe without the plan
+    safe_gives : (left : ℕ → ℕ) (words : List ℕ) → IsSafe opened history [] (without 1 left) words → Fits words × (shown_commits words ≡ (state_of d.cached now).commits)
+    safe_gives left words safe = (safe.fits, safe-shows opened history (state_of d.cached now) state_now (without 1 left) words safe)
 
     -- nothing is played
     abbrev idle_plans : Plans
@@ -252,7 +259,7 @@ module _ (opened : List ℕ) where
 
     decides_now : (next_now : Transactions) (given copy : Reply) (actions : List Action) (fewer : ℕ)
         → events ≡ fewer + 1 → copy ≡ given → IsPlacedLate None said given actions → IsDecided d.cached now said given actions next_now
-        → (Fits d.cached → SurvivesCuts (state_of d.cached now) (state_of (words_after actions d.cached) next_now) d.cached actions)
+        → (Fits d.cached → SurvivesCuts (state_of d.cached now) (state_of (words_after actions d.cached) next_now) given d.cached actions)
         → IsKept d opened (history ++ unanswered (length history + 1) said given ∷ []) next_now actions (flight.Placed copy) fewer played started
     decides_now next_now given copy actions fewer one copied places decided survives =
         let entry = unanswered (length history + 1) said given in
@@ -263,15 +270,13 @@ module _ (opened : List ℕ) where
         let then = state_of (words_after actions d.cached) next_now in
         let is_then : state_after (logical_state opened) (history ++ entry ∷ []) ≡ then =
         state_after-more (logical_state opened) history entry ∙ ap (λ (s : State). next s 1 said given) state_now ∙ decided.state in
-        let s = survives fits_now in
+        let s = survives safe_now.fits in
         let words : words_after actions d.cached ≡ finished s.parts d.cached = ap (λ (xs : List Action). words_after xs d.cached) s.plan_is ∙ words_after-plan s.parts d.cached in
-        let rows_then : next_row (finished s.parts d.cached) ≡ next_row_of then 0 =
-        ap next_row (sym words) ∙ (let shows = stage-shows (words_after actions d.cached) next_now.running decided.stage in let next = shows.1 in omega (arith, next)) in
         let placed = IsSafe opened (history ++ entry ∷ []) [] in
-        let law = survives-alone (IsSafe opened history []) placed (IsShown before then) (λ image. IsShown before then image × (next_row image ≡ next_row_of then 0)) d.cached s.parts s.plan s.each
-        (each_cut-end (IsShown before then) s.parts d.cached s.each, rows_then)
-        (λ left image safe some shown. decided-safe opened history before then state_now d.cached rows_now left said given (length history + 1) is_then image safe some shown)
-        (λ left image safe nothing shown. decided-ends opened history before then state_now d.cached rows_now left said given (length history + 1) is_then image safe decided.below shown) in
+        let law = survives-like (IsSafe opened history []) placed before (IsShown before.commits s.bound) (λ words image. IsShown before.commits s.bound words image × (s.bound ≤ next_row image)) s.reads d.cached s.parts s.plan (like_now s.reads)
+        s.each (λ words like. (each_cut-end (IsShown before.commits s.bound words) s.parts words (s.each words like), s.end words like)) safe_gives
+        (λ left words image safe some shown. decided-safe opened history before then state_now words left said given (length history + 1) s.bound is_then s.commits s.rows s.most image safe some shown)
+        (λ left words image safe nothing shown. decided-ends opened history before then state_now words left said given (length history + 1) s.bound is_then s.commits s.rows s.most image safe s.below shown) in
         let reached : words_after actions d.cached ≡ standing (joined idle_plans d idle_playing idle_all s.parts s.plan) [] d.cached =
         words ∙ sym (joined-stands idle_plans d idle_playing idle_all s.parts s.plan (has_place []) refl) in
         record {
@@ -283,7 +288,7 @@ module _ (opened : List ℕ) where
           legal = legal-more (logical_state opened) history entry kept.legal kept.alone refl refl (subst (λ (s : State). IsAllowed s 1 said given) (sym state_now) decided.allowed);
           represents = is_then ∙ ap (λ (ws : List ℕ). state_of ws next_now) reached;
           stage = subst (λ (ws : List ℕ). IsStage ws next_now.running) reached decided.stage;
-          safe = joined-holds idle_plans d idle_playing idle_all s.parts s.plan (IsSafe opened history []) placed law idle_holds;
+          safe = joined-holds idle_plans d idle_playing idle_all s.parts s.plan (IsSafe opened history []) placed s.reads law idle_holds;
           answers = record { front = history; last = entry; is = refl; given_before = kept.answers; open_still = refl; reply = sym copied };
           alone = of_one-more history entry kept.alone refl;
           count = let c = kept.count in omega (arith, c, size_more);
@@ -308,19 +313,19 @@ module _ (opened : List ℕ) where
       let is_before = state_now d history now call.Commit events played started kept in
       let is_then : state_after (logical_state opened) (history ++ entry ∷ []) ≡ then =
       state_after-more (logical_state opened) history entry ∙ ap (λ (s : State). next s 1 call.Commit (reply.Committed number)) is_before ∙ decided.state in
-      let h = survives (fits_now d history now call.Commit events played started kept) in
+      let h = survives (safe_now d history now call.Commit events played started kept).fits in
       let early = commit_early h.first h.count number in
       let second = commit_late h.count number in
       let plan : IsPlan (length d.cached) early = (h.plan.0, (h.plan.1.0, tt)) in
       let plans = idle_plans d history now call.Commit events played started kept in
       let playing = idle_playing d history now call.Commit events played started kept in
       let all = idle_all d history now call.Commit events played started kept in
-      let rows = rows_now d history now call.Commit events played started kept in
       let due_then = IsSafe opened history (entry ∷ []) in
-      let law = survives-alone (IsSafe opened history []) due_then (IsShownUntil before then number) (λ image. IsShownUntil before then number image × IsShown before then image) d.cached early plan h.early
-      (each_cut-end (IsShownUntil before then number) early d.cached h.early, each_cut-start (IsShown before then) second (finished early d.cached) h.later)
-      (λ left image safe some shown. until-safe opened history before then is_before d.cached rows left number (length history + 1) h.rows is_then image safe some shown)
-      (λ left image safe nothing shown. until-ends opened history before then is_before d.cached rows left number (length history + 1) h.rows is_then image safe shown) in
+      let law = survives-like (IsSafe opened history []) due_then before (IsShownUntil before then number) (λ words image. IsShownUntil before then number words image × IsShown then.commits 0 words image)
+      (commit_reads h.first h.count) d.cached early plan (like_now d history now call.Commit events played started kept (commit_reads h.first h.count))
+      h.early (λ words like. (each_cut-end (IsShownUntil before then number words) early words (h.early words like), h.decided words like)) (safe_gives d history now call.Commit events played started kept)
+      (λ left words image safe some shown. until-safe opened history before then is_before words left number (length history + 1) is_then image safe some shown)
+      (λ left words image safe nothing shown. until-ends opened history before then is_before words left number (length history + 1) is_then image safe shown) in
       let stays : standing (joined plans d playing all early plan) (entry ∷ []) d.cached ≡ d.cached =
       stands-waiting (joined plans d playing all early plan) d.cached d (has_place (entry ∷ [])) (joined-playing plans d playing all early plan) (joined-alone plans d playing all early plan) refl in
       let mine = joined-one plans d playing all early plan in
@@ -340,7 +345,7 @@ module _ (opened : List ℕ) where
         legal = kept.legal;
         represents = is_before ∙ ap (λ (ws : List ℕ). state_of ws now) (sym stays);
         stage = subst (λ (ws : List ℕ). IsStage ws now.running) (sym stays) (stage_now d history now call.Commit events played started kept);
-        safe = joined-holds plans d playing all early plan (IsSafe opened history []) due_then law (idle_holds d history now call.Commit events played started kept);
+        safe = joined-holds plans d playing all early plan (IsSafe opened history []) due_then (commit_reads h.first h.count) law (idle_holds d history now call.Commit events played started kept);
         answers = kept.answers;
         alone = kept.alone;
         count = kept.count;
@@ -355,7 +360,7 @@ module _ (opened : List ℕ) where
   pub decides : (d : Device) (history new : List Entry) (now next_now : Transactions) (said : Call) (given copy : Reply) (late : Option Late) (entered : Flight) (actions : List Action) (events fewer played started : ℕ)
       → events ≡ fewer + 1 → copy ≡ given → IsPlacedLate late said given actions → IsOpenStill late now next_now → IsLateIn (state_of d.cached now) late → IsEntered late said given copy history new entered
       → IsDecided d.cached now said given actions (at_place late next_now)
-      → (Fits d.cached → IsSurvived (state_of d.cached now) (state_of (words_after actions d.cached) (at_place late next_now)) late d.cached actions)
+      → (Fits d.cached → IsSurvived (state_of d.cached now) (state_of (words_after actions d.cached) (at_place late next_now)) late given d.cached actions)
       → IsKept d opened history now [] (flight.Waiting said) events played started → IsKept d opened new next_now actions entered fewer played started
   decides d history new now next_now said given copy None entered actions events fewer played started one copied places still timed enters decided survives kept =
       rw (enters.0, enters.1) (decides_now d history now said events played started kept next_now given copy actions fewer one copied places decided survives)

@@ -28,9 +28,9 @@ pub data InFlight : Type 0 where
   Unplaced : Call → InFlight
   Last : InFlight
 
--- a core: its memory, the words at its opening, the history since then, the entry that a commit is to get that was decided
--- and has no place yet, the call in flight, how many actions of its plan are left, how many more events it may take, how many
--- actions were played and how many calls were started
+-- a core: its memory, the words at its opening, the history since then, the entry that a commit is to get that was
+-- decided and has no place yet, the call in flight, how many actions of its plan are left, how many more events it may
+-- take, how many actions were played and how many calls were started
 pub record CoreState (M : Type 0) : Type 0 where
   pub memory : M
   pub opened : List ℕ
@@ -61,7 +61,7 @@ unanswered ordinal said given = record { session = 1; ordinal = ordinal; call = 
 
 -- the same entry once its reply was given
 abbrev pub answered : Entry → Entry
-answered entry = record { session = entry.session; ordinal = entry.ordinal; call = entry.call; reply = entry.reply; answered = true }
+answered entry = record entry { answered = true }
 
 -- each entry is of session 1
 abbrev pub IsOfOne : List Entry → Type 0
@@ -84,8 +84,10 @@ pending (flight.Placed given) = 0
 
 -- A call that is decided has its entry, or it is a commit that waits for its place.
 abbrev pub IsEntered : Option Late → Call → Reply → Reply → List Entry → List Entry → Flight → Type 0
-IsEntered (Some late) said given copy before after in_flight = (after ≡ before) × (in_flight ≡ flight.Committing late.number late.left)
-IsEntered None said given copy before after in_flight = (after ≡ before ++ unanswered (length before + 1) said given ∷ []) × (in_flight ≡ flight.Placed copy)
+IsEntered (Some late) said given copy before after in_flight =
+    (after ≡ before) × (in_flight ≡ flight.Committing late.number late.left)
+IsEntered None said given copy before after in_flight =
+    (after ≡ before ++ unanswered (length before + 1) said given ∷ []) × (in_flight ≡ flight.Placed copy)
 
 -- A commit has its entry once so many actions are left, and its transaction is closed there; nothing else changes.
 abbrev pub IsPlacedAt : ℕ → Flight → Flight → Transactions → Transactions → List Entry → List Entry → Type 0
@@ -124,7 +126,8 @@ IsAnsweredButFor Last history = (given : Reply) × EndsUnanswered given history
 -- nothing is due, or the entry of a commit in flight, which comes next in the history
 abbrev pub IsDueNext : InFlight → List Entry → List Entry → Type 0
 IsDueNext in_flight history entries =
-    (entries ≡ []) ⊎ ((in_flight ≡ Unplaced call.Commit) × ((number : ℕ) × (entries ≡ unanswered (length history + 1) call.Commit (reply.Committed number) ∷ [])))
+    (entries ≡ []) ⊎ ((in_flight ≡ Unplaced call.Commit)
+    × ((number : ℕ) × (entries ≡ unanswered (length history + 1) call.Commit (reply.Committed number) ∷ [])))
 
 -- a commit is certain while so many actions are left to play
 abbrev pub IsCertain : State → Reply → ℕ → Type 0
@@ -134,7 +137,8 @@ IsCertain state other to_play = Unit {0}
 -- so is the last of these entries, where it is a commit
 abbrev pub EndsCertain : State → List Entry → ℕ → Type 0
 EndsCertain opened entries to_play =
-    (front : List Entry) → (last : Entry) → entries ≡ front ++ last ∷ [] → IsCertain (state_after opened front) last.reply to_play
+    (front : List Entry) → (last : Entry) → entries ≡ front ++ last ∷ []
+    → IsCertain (state_after opened front) last.reply to_play
 
 -- the entry of a commit is due, which comes next in the history: the fence that makes it certain is still to be played
 pub record IsCommitDue (opened : State) (history entries : List Entry) (to_play : ℕ) : Type 0 where
@@ -142,8 +146,8 @@ pub record IsCommitDue (opened : State) (history entries : List Entry) (to_play 
   pub is : entries ≡ unanswered (length history + 1) call.Commit (reply.Committed number) ∷ []
   pub before : late_in (state_after opened history) number < to_play
 
--- Of the calls that are decided, a commit is due until the fence that makes it certain was played; each other one is in the
--- history.
+-- Of the calls that are decided, a commit is due until the fence that makes it certain was played; each other one is in
+-- the history.
 abbrev pub IsDueAt : State → List Entry → List Entry → ℕ → Type 0
 IsDueAt opened history entries to_play =
     ((entries ≡ []) × EndsCertain opened history to_play) ⊎ IsCommitDue opened history entries to_play
@@ -173,8 +177,8 @@ pub record Stays {M : Type 0} (before after : CoreState M) : Type 0 where
   pub history : after.history ≡ before.history
   pub due : after.due ≡ before.due
 
--- A call gets its entry at its decision; but a commit that is to have a number waits for it. It is refused for want of room
--- where there is none, and for want of memory where it takes some.
+-- A call gets its entry at its decision; but a commit that is to have a number waits for it. It is refused for want of
+-- room where there is none, and for want of memory where it takes some.
 pub record GetsEntryAtDecision {M : Type 0} (before after : CoreState M) : Type 0 where
   pub said : Call
   pub given : Reply

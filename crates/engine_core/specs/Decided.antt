@@ -30,7 +30,8 @@ left_of (Some plan) = plan.left
 
 -- An insert is refused for want of room exactly where all rows of the table, or all entries of the object, are used.
 abbrev pub IsFullWhere : State → Reply → Type 0
-IsFullWhere state (reply.Full need largest) = (need ≡ 1) × (largest ≡ 0) × ((next_row_of state 0 ≡ 4096) ⊎ (rows_created state ≡ 60))
+IsFullWhere state (reply.Full need largest) =
+    (need ≡ 1) × (largest ≡ 0) × ((next_row_of state 0 ≡ 4096) ⊎ (rows_created state ≡ 60))
 IsFullWhere state (reply.Row row) = (row < 4096) × (rows_created state < 60)
 IsFullWhere state (reply.DictFull column) = ⊥
 IsFullWhere state other = Unit {0}
@@ -40,19 +41,19 @@ abbrev pub TakesMemory : State → Reply → Type 0
 TakesMemory state (reply.Row row) = (row < 4096) × (rows_created state < 60)
 TakesMemory state due = is_refusal due ≡ false
 
+-- the call takes memory on these words, with these transactions
+abbrev pub MayWantMemory : List ℕ → Transactions → Call → Type 0
+MayWantMemory words now said = TakesMemory (state_of words now) (answer (state_of words now) 1 said)
+
 -- Memory is refused only to a call that takes some.
 abbrev pub IsNoMemoryWhere : State → Call → Reply → Type 0
 IsNoMemoryWhere state said reply.NoMemory = TakesMemory state (answer state 1 said)
 IsNoMemoryWhere state said other = Unit {0}
 
--- a row that is given has a number below this one
-abbrev pub IsRowBelow : ℕ → Reply → Type 0
-IsRowBelow count (reply.Row row) = row < count
-IsRowBelow count other = Unit {0}
-
--- From these words and transactions the call is given this reply: the sequential table allows it; and once these actions
--- were played, the words and the transactions stand for the state that it leaves.
-pub record IsDecided (words : List ℕ) (before : Transactions) (said : Call) (given : Reply) (actions : List Action) (after : Transactions) : Type 0 where
+-- From these words and transactions the call is given this reply: the sequential table allows it; and once these
+-- actions were played, the words and the transactions stand for the state that it leaves.
+pub record IsDecided (words : List ℕ) (before : Transactions) (said : Call) (given : Reply) (actions : List Action)
+    (after : Transactions) : Type 0 where
   pub allowed : IsAllowed (state_of words before) 1 said given
   pub parts : List Part
   pub plan : IsPlan (length words) parts
@@ -61,7 +62,6 @@ pub record IsDecided (words : List ℕ) (before : Transactions) (said : Call) (g
   pub stage : IsStage (words_after actions words) after.running
   pub full : IsFullWhere (state_of words before) given
   pub memory : IsNoMemoryWhere (state_of words before) said given
-  pub below : IsRowBelow (next_row_of (state_of (words_after actions words) after) 0) given
   pub planned : actions ≡ plan_due (state_of words before) said given
   pub short : length actions ≤ 400
   pub begun : after.begun ≤ before.begun + 1
@@ -107,8 +107,8 @@ pub record IsDecision (words : List ℕ) (before : Transactions) (said : Call) (
   pub late : IsPlacedLate decision.late said decision.reply (left_of decision.plan)
   pub open_still : IsOpenStill decision.late before decision.after
   pub timed : IsLateIn (state_of words before) decision.late
-  pub survives : Fits words
-      → IsSurvived (state_of words before) (state_then words decision) decision.late words (left_of decision.plan)
+  pub survives : Fits words → IsSurvived (state_of words before) (state_then words decision) decision.late
+      decision.reply words (left_of decision.plan)
 
 -- the decision that ends a transaction that wrote nothing
 pub record IsClosed (begun : ℕ) (decision : Decision) : Type 0 where

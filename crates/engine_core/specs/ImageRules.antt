@@ -7,6 +7,7 @@ use Rattle.image_layout.specs.Fixed.{magic_at, version_at, last_at, descriptor_a
 use Rattle.image_layout.specs.Fresh.{magic_number}
 use Rattle.image_layout.specs.Places.{below, page_count}
 use Rattle.image_layout.specs.Checks.{Check, check, Rule, Keeps, Numbered, numbered}
+pub use Rattle.image_view.specs.Views.{dead}
 use Rattle.engine_core.specs.Stage.{high_at, born_at, ended_at}
 
 -- ── rules 1 to 15 hold of every image that a power cut can leave ──
@@ -30,7 +31,8 @@ is_reserved_page page = (page % 64 == 0) || nat_lt page 28
 -- 5: reserved pages have the descriptor 8
 unfoldable pub reserved_rule : Rule
 reserved_rule words =
-    map (λ page. check (descriptor_at page) (slice_index words (descriptor_at page) == 8)) (filter is_reserved_page (below (page_count words)))
+    map (λ page. check (descriptor_at page) (slice_index words (descriptor_at page) == 8))
+    (filter is_reserved_page (below (page_count words)))
 
 -- a number that a commit word may have: at most one more than the last commit number
 abbrev pub may_be_commit_word : ℕ → ℕ → Bool
@@ -40,7 +42,8 @@ may_be_commit_word last number = nat_le number (last + 1) && nat_le number MAX_C
 abbrev pub object_checks : List ℕ → ℕ → List Check
 object_checks words object =
     check (state_at object) (nat_le (slice_index words (state_at object)) 1)
-    ∷ check (commit_word_at object) (may_be_commit_word (slice_index words last_at) (slice_index words (commit_word_at object)))
+    ∷ check (commit_word_at object)
+    (may_be_commit_word (slice_index words last_at) (slice_index words (commit_word_at object)))
     ∷ check (ready_at object) (slice_index words (ready_at object) == 0)
     ∷ check (first_segment_at object) (slice_index words (first_segment_at object) == 0)
     ∷ []
@@ -51,7 +54,8 @@ object_rule words = flat_map (object_checks words) (below 16)
 
 -- the entry of a row of the one table that was created, kind 1, or ended, kind 2
 abbrev pub is_entry : ℕ → Bool
-is_entry word = ((word / 2 ^ 56 == 1) || (word / 2 ^ 56 == 2)) && (word / 2 ^ 32 % 2 ^ 24 == 0) && nat_lt (word % 2 ^ 32) 4096
+is_entry word =
+    ((word / 2 ^ 56 == 1) || (word / 2 ^ 56 == 2)) && (word / 2 ^ 32 % 2 ^ 24 == 0) && nat_lt (word % 2 ^ 32) 4096
 
 -- an entry word is 0, or an entry that follows no 0
 abbrev pub is_entry_word : List ℕ → ℕ → ℕ → Bool
@@ -61,7 +65,8 @@ is_entry_word words object nth =
 
 abbrev pub entry_checks : List ℕ → ℕ → List Check
 entry_checks words object =
-    if slice_index words (state_at object) == 1 then map (λ nth. check (entry_at object nth) (is_entry_word words object nth)) (below 60) else []
+    if slice_index words (state_at object) == 1
+    then map (λ nth. check (entry_at object nth) (is_entry_word words object nth)) (below 60) else []
 
 -- 15: the entries of open objects are entries, and none follows a 0
 unfoldable pub entry_rule : Rule
@@ -69,7 +74,8 @@ entry_rule words = flat_map (entry_checks words) (below 16)
 
 abbrev pub entry_rules : List Numbered
 entry_rules =
-    numbered 1 magic_rule ∷ numbered 2 version_rule ∷ numbered 3 last_rule ∷ numbered 5 reserved_rule ∷ numbered 14 object_rule ∷ numbered 15 entry_rule ∷ []
+    numbered 1 magic_rule ∷ numbered 2 version_rule ∷ numbered 3 last_rule ∷ numbered 5 reserved_rule
+    ∷ numbered 14 object_rule ∷ numbered 15 entry_rule ∷ []
 
 -- the image keeps each of them
 pub record KeepsEntryRules (words : List ℕ) : Type 0 where
@@ -93,10 +99,6 @@ closed_checks words object =
 unfoldable pub closed_rule : Rule
 closed_rule words = flat_map (closed_checks words) (below 16)
 
--- the stamp of a dead row
-abbrev pub dead : ℕ
-dead = 2 ^ 64 - 1
-
 -- the number of a commit
 abbrev pub is_commit : List ℕ → ℕ → Bool
 is_commit words stamp = nat_le 1 stamp && nat_le stamp (slice_index words last_at)
@@ -112,7 +114,8 @@ abbrev pub is_ended : List ℕ → ℕ → Bool
 is_ended words row =
     let born = slice_index words (born_at row) in
     let ended = slice_index words (ended_at row) in
-    (ended == 0) || (nat_lt row (slice_index words high_at) && is_commit words born && is_commit words ended && nat_le born ended)
+    (ended == 0)
+    || (nat_lt row (slice_index words high_at) && is_commit words born && is_commit words ended && nat_le born ended)
 
 abbrev pub row_checks : List ℕ → ℕ → List Check
 row_checks words row = check (born_at row) (is_born words row) ∷ check (ended_at row) (is_ended words row) ∷ []

@@ -8,9 +8,9 @@ use Rattle.mv_model.specs.History.{IsLegal, after, state_after}
 use Rattle.mv_model.specs.View.{next_row_of}
 use Rattle.pm_model.specs.declared.action.Action.{Action}
 use Rattle.pm_model.specs.Device.{Device}
-use Rattle.pm_model.specs.ManyPlans.{Progress}
 use Rattle.pm_model.specs.Plans.{at_rest, plan_of, run, words_after}
 use Rattle.image_layout.specs.Fixed.{commit_word_at}
+use Rattle.pm_model.specs.ManyPlans.{Progress}
 use Rattle.side_by_side.specs.SideBySide.{Plans, left_of, ArePlaying, HoldsAtEachCut}
 use Rattle.side_by_side.specs.Standing.{stands}
 use Rattle.engine_core.specs.LogicalState.{commit_count, commits_in, logical_state, next_row, state_of}
@@ -102,9 +102,10 @@ IsBounded (flight.Waiting said) left events_left = (left ≡ []) × (500 ≤ eve
 IsBounded (flight.Committing number late) left events_left = (late < length left) × (length left < events_left)
 IsBounded (flight.Placed given) left events_left = length left < events_left
 
--- So many actions were played since the words were opened, and these are left: together they are the plans of the entries,
--- one after the other.
-pub record HasPlayed (d : Device) (opened : List ℕ) (entries : List Entry) (left : List Action) (played : ℕ) : Type 0 where
+-- So many actions were played since the words were opened, and these are left: together they are the plans of the
+-- entries, one after the other.
+pub record HasPlayed (d : Device) (opened : List ℕ) (entries : List Entry) (left : List Action) (played : ℕ) :
+    Type 0 where
   pub actions : List Action
   pub planned : plan_in (logical_state opened) entries ≡ actions ++ left
   pub count : length actions ≡ played
@@ -119,8 +120,8 @@ IsTimed opened history (flight.Placed given) left = EndsCertain opened history l
 
 -- ── the core ──
 
--- Nobody but session 1 writes. The history is legal from the state that the opened words stand for, and leaves the state
--- that the words stand for.
+-- Nobody but session 1 writes. The history is legal from the state that the opened words stand for, and leaves the
+-- state that the words stand for.
 pub record IsKept (d : Device) (opened : List ℕ) (history : List Entry) (now : Transactions) (left : List Action)
     (in_flight : Flight) (events_left played started : ℕ) : Type 0 where
   -- the plans in play, as the proof sees them, and the words with every plan taken back to its start

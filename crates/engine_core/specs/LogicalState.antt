@@ -1,5 +1,5 @@
 -- The table state that the words of a stage image stand for.
-use Rattle.std.specs.Prelude.{ℕ, ℤ, zero, suc, ◌+◌, ◌/◌, ◌%◌, ◌^◌, ◌==◌, ◌&&◌, ◌||◌, not, nat_le, nat_lt, max, Bool, if◌then◌else◌, codes, List, [], ◌∷◌, map, filter, Option, option_map, slice_set, slice_index}
+use Rattle.std.specs.Prelude.{ℕ, ℤ, ◌+◌, ◌%◌, ◌^◌, ◌==◌, ◌&&◌, ◌||◌, not, nat_le, nat_lt, Bool, codes, List, [], ◌∷◌, map, filter, Option, option_map, slice_set, slice_index}
 use Rattle.std.specs.List.{range_with_len}
 use Rattle.std.specs.Option.{option_map_or}
 use Rattle.std.specs.Int.{cast_signed, cast_unsigned}
@@ -8,7 +8,9 @@ use Rattle.mv_model.specs.declared.value.Value.TheVariants.{Int}
 use Rattle.mv_model.specs.declared.shape.Column.{Column}
 use Rattle.mv_model.specs.declared.shape.Kind.TheVariants as kind
 use Rattle.mv_model.specs.State.{CreatedRow, RowKey, Table, WriteSet, Transaction, State, all_idle}
-use Rattle.image_layout.specs.Fixed.{last_at, state_at, commit_word_at, entry_at}
+use Rattle.image_layout.specs.Fixed.{last_at}
+unfoldable pub use Rattle.stage_view.specs.StageWords.{greatest}
+pub use Rattle.stage_view.specs.StageWords.{of_open, commit_count, past_entry, next_row}
 use Rattle.engine_core.specs.Stage.{high_at, born_at, ended_at, value_at}
 use Rattle.engine_core.specs.declared.transactions.Transactions.{Transactions}
 use Rattle.engine_core.specs.declared.transactions.Running.{Running}
@@ -55,29 +57,6 @@ commit_of words number = record {
 -- the commits from 1 to this number
 abbrev pub commits_in : List ℕ → ℕ → List WriteSet
 commits_in words count = map (commit_of words) (range_with_len 1 count)
-
--- the greatest value at the numbers below n
-unfoldable pub greatest : (ℕ → ℕ) → ℕ → ℕ
-greatest value zero = 0
-greatest value (suc n) = max (value n) (greatest value n)
-
--- this number of an object that is open, and 0 of an idle one
-abbrev pub of_open : List ℕ → (ℕ → ℕ) → ℕ → ℕ
-of_open words value object = if slice_index words (state_at object) == 1 then value object else 0
-
--- how many commits the words stand for: the greatest of the last commit number and the commit words of open objects
-abbrev pub commit_count : List ℕ → ℕ
-commit_count words = max (slice_index words last_at) (greatest (of_open words (λ object. slice_index words (commit_word_at object))) 16)
-
--- one more than the row that an entry word says was created
-abbrev pub past_entry : ℕ → ℕ
-past_entry word = if word / 2 ^ 56 == 1 then word % 2 ^ 32 + 1 else 0
-
--- the next row: no commit has used it up, and it is past the rows that open transactions created
-abbrev pub next_row : List ℕ → ℕ
-next_row words =
-    max (slice_index words high_at)
-    (greatest (of_open words (λ object. greatest (λ nth. past_entry (slice_index words (entry_at object nth))) 60)) 16)
 
 -- The table state that the words of an image stand for: its commits, and no open transaction.
 abbrev pub logical_state : List ℕ → State

@@ -1,5 +1,5 @@
 -- Which images a power cut may leave, and what is recovered from them.
-use Rattle.std.specs.Prelude.{◌≡◌, ◌≢◌, ◌⊎◌, ℕ, ◌-◌, ◌<◌, ◌≤◌, max, ◌&&◌, not, ◌==◌, true, if◌then◌else◌, List, ◌++◌, filter, map, slice_index, Option, Some, None, Contains}
+use Rattle.std.specs.Prelude.{◌≡◌, ◌⊎◌, ℕ, ◌-◌, ◌<◌, ◌≤◌, not, ◌==◌, true, List, ◌++◌, filter, map, slice_index, Option, Some, None, Contains}
 use Rattle.mv_model.specs.declared.call.Call.{Call}
 use Rattle.mv_model.specs.declared.call.Call.TheVariants as call
 use Rattle.mv_model.specs.declared.reply.Reply.TheVariants as reply
@@ -9,14 +9,14 @@ use Rattle.mv_model.specs.History.{after}
 use Rattle.mv_model.specs.State.{State, Table}
 use Rattle.mv_model.specs.View.{next_row_of}
 use Rattle.pm_model.specs.Device.{Device}
-use Rattle.image_layout.specs.Fixed.{state_at, commit_word_at, entry_at}
-use Rattle.txn_object.specs.Entries.{entry_of}
-use Rattle.txn_object.specs.declared.entry.EntryKind.{EntryKind}
+use Rattle.image_layout.specs.Fixed.{commit_word_at}
 use Rattle.txn_object.specs.declared.entry.EntryKind.TheVariants.{Created, Ended}
-use Rattle.engine_core.specs.Stage.{high_at, born_at, ended_at}
-use Rattle.engine_core.specs.LogicalState.{logical_state, commit_count, next_row, greatest}
-use Rattle.engine_core.specs.ImageRules.{KeepsEntryRules, IsSound, dead}
-use Rattle.engine_core.specs.Opening.{is_open, past_created, recovered}
+pub use Rattle.stage_view.specs.StageFits.{IsUndecided, IsBornBy, IsEndedBy}
+pub use Rattle.stage_view.specs.StageWords.{used_up}
+use Rattle.engine_core.specs.Stage.{high_at, ended_at}
+use Rattle.engine_core.specs.LogicalState.{logical_state, commit_count, next_row}
+use Rattle.engine_core.specs.ImageRules.{KeepsEntryRules, IsSound}
+use Rattle.engine_core.specs.Opening.{recovered}
 
 -- Opening mends the image, and changes nothing of what it shows.
 pub record IsRecoverable (words : List ℕ) : Type 0 where
@@ -26,44 +26,15 @@ pub record IsRecoverable (words : List ℕ) : Type 0 where
 
 -- ── the same, said word by word and with no opening in it ──
 
--- a transaction that is open and has no commit word says so of the row
-pub record IsUndecided (words : List ℕ) (kind : EntryKind) (row : ℕ) : Type 0 where
-  pub object : ℕ
-  pub nth : ℕ
-  pub object_is : object < 16
-  pub nth_is : nth < 60
-  pub is_open : slice_index words (state_at object) ≡ 1
-  pub no_commit : slice_index words (commit_word_at object) ≡ 0
-  pub entry : slice_index words (entry_at object nth) ≢ 0
-  pub kind_is : (entry_of (slice_index words (entry_at object nth))).kind ≡ kind
-  pub row_is : (entry_of (slice_index words (entry_at object nth))).row ≡ row
-
--- a row that was given out was created by no commit, or by one, or it is dead
-pub record IsBornBy (words : List ℕ) (row : ℕ) : Type 0 where
-  pub stamp : (slice_index words (born_at row) ≤ commit_count words) ⊎ (slice_index words (born_at row) ≡ dead)
-  pub given : slice_index words (born_at row) ≢ 0 → row < next_row words
-
--- a commit ended the row, and it isn't before the one that created it
-pub record IsEndedBy (words : List ℕ) (row : ℕ) : Type 0 where
-  pub given : row < next_row words
-  pub first : 1 ≤ slice_index words (born_at row)
-  pub later : slice_index words (born_at row) ≤ slice_index words (ended_at row)
-  pub last : slice_index words (ended_at row) ≤ commit_count words
-
--- so many rows are used up once open transactions without a commit word are undone
-abbrev pub used_up : List ℕ → ℕ
-used_up words =
-    max (slice_index words high_at)
-    (greatest (λ object. if is_open words object && (slice_index words (commit_word_at object) == 0) then past_created words object else 0) 16)
-
--- The image fits together: each stamp is that of a commit, or opening takes it back; and every row that was given out is used
--- up, or will be.
+-- The image fits together: each stamp is that of a commit, or opening takes it back; and every row that was given out is
+-- used up, or will be.
 pub record Fits (words : List ℕ) : Type 0 where
   pub entry : KeepsEntryRules words
   pub high : slice_index words high_at ≤ 4096
   pub rows : next_row words ≤ used_up words
   pub born : (row : ℕ) → row < 4096 → IsBornBy words row ⊎ IsUndecided words Created row
-  pub ended : (row : ℕ) → row < 4096 → (slice_index words (ended_at row) ≡ 0) ⊎ (IsEndedBy words row ⊎ (IsUndecided words Ended row × (commit_count words < slice_index words (ended_at row))))
+  pub ended : (row : ℕ) → row < 4096 → (slice_index words (ended_at row) ≡ 0)
+      ⊎ (IsEndedBy words row ⊎ (IsUndecided words Ended row × (commit_count words < slice_index words (ended_at row))))
 
 -- ── what may be recovered ──
 
@@ -83,19 +54,21 @@ pub record IsGiven (state : State) (entry : Entry) (table row : ℕ) : Type 0 wh
 abbrev pub without_rows : State → State
 without_rows state = record state { tables = map {A = Table} (λ table. record table { next_row = 0 }) state.tables }
 
--- A state has the tables and the commits of another one, and may have given out fewer row numbers: but no fewer than at the
--- opening, and no row that an answered call was given comes again.
+-- A state has the tables and the commits of another one, and may have given out fewer row numbers: but no fewer than at
+-- the opening, and no row that an answered call was given comes again.
 pub record IsRecoveryOf (opened : State) (history : List Entry) (base state : State) : Type 0 where
   pub same : without_rows state ≡ without_rows base
   pub least : (table : ℕ) → next_row_of opened table ≤ next_row_of state table
-  pub given : (entry : Entry) (table row : ℕ) → Contains history entry → IsGiven base entry table row → row < next_row_of state table
+  pub given : (entry : Entry) (table row : ℕ) → Contains history entry → IsGiven base entry table row
+      → row < next_row_of state table
   pub most : (table : ℕ) → next_row_of state table ≤ next_row_of base table
 
--- From this history the state may be recovered: the state that the history leaves, or the one that it leaves with a commit
--- whose commit word is stored and isn't durable yet.
+-- From this history the state may be recovered: the state that the history leaves, or the one that it leaves with a
+-- commit whose commit word is stored and isn't durable yet.
 abbrev pub MayRecoverTo : State → List Entry → List Entry → State → Type 0
 MayRecoverTo opened history undecided state =
-    IsRecoveryOf opened history (after opened history) state ⊎ IsRecoveryOf opened history (after opened (history ++ undecided)) state
+    IsRecoveryOf opened history (after opened history) state
+    ⊎ IsRecoveryOf opened history (after opened (history ++ undecided)) state
 
 -- the place of the word that decides a call: of a commit, the commit word of its session's object
 abbrev pub deciding_word : Entry → ℕ
@@ -104,4 +77,5 @@ deciding_word entry = commit_word_at (entry.session - 1)
 -- of these entries those whose deciding word is stored and isn't durable
 abbrev pub undecided : Device → List Entry → List Entry
 undecided d due =
-    filter (λ entry. not (slice_index d.cached (deciding_word entry) == slice_index d.durable (deciding_word entry))) due
+    filter (λ entry. not (slice_index d.cached (deciding_word entry) == slice_index d.durable (deciding_word entry)))
+    due

@@ -1,7 +1,7 @@
 -- The stage image: a store of one table `t a:int` whose arrays stand at fixed places.
 --
 --   place          content
---   0 to 27        the descriptors of pages 0 to 27, which the heap never gives out; so is the first word of each segment
+--   0 to 27        the descriptors of pages 0 to 27, which the heap never gives out; so is each segment's first word
 --   512            the magic number
 --   513            the version of the format, 102
 --   514            the last commit number
@@ -11,26 +11,11 @@
 --   2048 + r       of row r below 4,096: the number of the commit that created it, or 0, or all ones for a dead row
 --   6144 + r       the number of the commit that ended it, or 0
 --   10240 + r      the key word of its value
-use Rattle.std.specs.Prelude.{ℕ, ◌+◌, ◌*◌, ◌%◌, Bool, ◌||◌, ◌==◌, nat_lt, if◌then◌else◌, List, map}
+use Rattle.std.specs.Prelude.{ℕ, ◌*◌, ◌%◌, Bool, ◌||◌, ◌==◌, nat_lt, if◌then◌else◌, List, map}
 use Rattle.std.specs.List.{range_with_len}
 use Rattle.image_layout.specs.Fixed.{magic_at, version_at}
+pub use Rattle.stage_view.specs.StageWords.{high_at, born_at, ended_at, value_at}
 use Rattle.image_layout.specs.Fresh.{magic_number}
-
--- how many rows commits have used up
-abbrev pub high_at : ℕ
-high_at = 517
-
--- which commit created a row
-abbrev pub born_at : ℕ → ℕ
-born_at row = 2048 + row
-
--- which commit ended a row
-abbrev pub ended_at : ℕ → ℕ
-ended_at row = 6144 + row
-
--- the value of a row
-abbrev pub value_at : ℕ → ℕ
-value_at row = 10240 + row
 
 -- the place is that of the descriptor of a reserved page: the first page of a segment, or one of the first 28 pages
 abbrev pub is_reserved : ℕ → Bool

@@ -23,7 +23,8 @@ pub record IsStage (words : List ℕ) (running : Option Running) : Type 0 where
   pub few : rows_of running ≤ 60
   pub room : slice_index words high_at + rows_of running ≤ 4096
   -- a row was created by a commit, or is dead, or has no stamp; from `high` on it has none
-  pub born : (row : ℕ) → row < 4096 → (slice_index words (born_at row) ≤ slice_index words last_at) ⊎ (slice_index words (born_at row) ≡ 2 ^ 64 - 1)
+  pub born : (row : ℕ) → row < 4096
+      → (slice_index words (born_at row) ≤ slice_index words last_at) ⊎ (slice_index words (born_at row) ≡ 2 ^ 64 - 1)
   pub unborn : (row : ℕ) → slice_index words high_at ≤ row → row < 4096 → slice_index words (born_at row) ≡ 0
   -- and was ended by a commit, or wasn't
   pub ended : (row : ℕ) → row < 4096 → slice_index words (ended_at row) ≤ slice_index words last_at
@@ -31,7 +32,8 @@ pub record IsStage (words : List ℕ) (running : Option Running) : Type 0 where
   pub state : slice_index words (state_at 0) ≡ state_word running
   pub commit_word : slice_index words (commit_word_at 0) ≡ 0
   -- its entries are the transaction's rows, and the other entry words are 0
-  pub entries : (nth : ℕ) → nth < rows_of running → slice_index words (entry_at 0 nth) ≡ entry_word (created_entry (slice_index words high_at + nth))
+  pub entries : (nth : ℕ) → nth < rows_of running
+      → slice_index words (entry_at 0 nth) ≡ entry_word (created_entry (slice_index words high_at + nth))
   pub free : (nth : ℕ) → rows_of running ≤ nth → nth < 60 → slice_index words (entry_at 0 nth) ≡ 0
   -- every other object is idle
   pub others : (object : ℕ) → 1 ≤ object → object < 16 → slice_index words (state_at object) ≡ 0

@@ -2,9 +2,8 @@
 ghost use Rattle.std.specs.Prelude.{◌≡◌, ◌-◌, ◌^◌, ◌<◌, ◌≤◌, Some, None, [], ◌∷◌, IfOk, IsTrue, OnErr, length};
 ghost use Rattle.mv_model.specs.declared.call.Call.TheVariants as call;
 ghost use Rattle.mv_model.specs.declared.value.Value.TheVariants.{Int};
-ghost use Rattle.engine_core.specs.Decided.{IsClosed, IsDecision, TakesMemory};
-ghost use Rattle.mv_model.specs.Answer.{answer};
-ghost use Rattle.engine_core.specs.LogicalState.{is_seen as sees, state_of, within};
+ghost use Rattle.engine_core.specs.Decided.{IsClosed, IsDecision, MayWantMemory};
+ghost use Rattle.engine_core.specs.LogicalState.{is_seen as sees, within};
 ghost use Rattle.engine_core.specs.Served.{get_of, insert_of, is_served};
 ghost use Rattle.engine_core.specs.StageRules.{IsStage};
 
@@ -72,7 +71,7 @@ fn settle<M: Memory>(
     requires served { IsTrue (is_served said.now) }
     requires begun { now.begun < 2 ^ 64 - 1 }
     ensures decided { IfOk result (λ decision. IsDecision (M.device memory.now).cached now said.now decision) }
-    ensures memory { OnErr result (TakesMemory (state_of (M.device memory.now).cached now) (answer (state_of (M.device memory.now).cached now) 1 said.now)) }
+    ensures memory { OnErr result (MayWantMemory (M.device memory.now).cached now said.now) }
 {
     match now.running {
         None => settle_outside(alloc, memory, now.begun, said),
@@ -90,8 +89,10 @@ fn settle_outside<M: Memory>(
     requires stage { IsStage (M.device memory.now).cached None }
     requires served { IsTrue (is_served said.now) }
     requires begun { begun < 2 ^ 64 - 1 }
-    ensures decided { IfOk result (λ decision. IsDecision (M.device memory.now).cached (record { begun = begun; running = None }) said.now decision) }
-    ensures memory { OnErr result (TakesMemory (state_of (M.device memory.now).cached (record { begun = begun; running = None })) (answer (state_of (M.device memory.now).cached (record { begun = begun; running = None })) 1 said.now)) }
+    ensures decided { IfOk result (λ decision.
+        IsDecision (M.device memory.now).cached (record { begun = begun; running = None }) said.now decision) }
+    ensures memory { OnErr result
+        (MayWantMemory (M.device memory.now).cached (record { begun = begun; running = None }) said.now) }
 {
     match said {
         Call::Begin => begin(alloc, memory, begun),
@@ -116,8 +117,10 @@ fn settle_inside<M: Memory>(
 ) -> Result<Decision, NoMemory>
     requires stage { IsStage (M.device memory.now).cached (Some own) }
     requires served { IsTrue (is_served said.now) }
-    ensures decided { IfOk result (λ decision. IsDecision (M.device memory.now).cached (record { begun = begun; running = Some own }) said.now decision) }
-    ensures memory { OnErr result (TakesMemory (state_of (M.device memory.now).cached (record { begun = begun; running = Some own })) (answer (state_of (M.device memory.now).cached (record { begun = begun; running = Some own })) 1 said.now)) }
+    ensures decided { IfOk result (λ decision.
+        IsDecision (M.device memory.now).cached (record { begun = begun; running = Some own }) said.now decision) }
+    ensures memory { OnErr result
+        (MayWantMemory (M.device memory.now).cached (record { begun = begun; running = Some own }) said.now) }
 {
     match said {
         Call::Begin => Ok(stand(
@@ -154,7 +157,8 @@ fn stand(reply: Reply, copy: Reply, now: Transactions) -> Decision
 fn begin<M: Memory>(alloc: Global, memory: &M, begun: u64) -> Result<Decision, NoMemory>
     requires stage { IsStage (M.device memory.now).cached None }
     requires begun { begun < 2 ^ 64 - 1 }
-    ensures { IfOk result (λ decision. IsDecision (M.device memory.now).cached (record { begun = begun; running = None }) call.Begin decision) }
+    ensures { IfOk result (λ decision.
+        IsDecision (M.device memory.now).cached (record { begun = begun; running = None }) call.Begin decision) }
 {
     let number = begun + 1;
     let snapshot = memory.load(last_commit());
@@ -185,8 +189,11 @@ fn insert<M: Memory>(
     number: i64,
 ) -> Result<Decision, NoMemory>
     requires { IsStage (M.device memory.now).cached (Some own) }
-    ensures decided { IfOk result (λ decision. IsDecision (M.device memory.now).cached (record { begun = begun; running = Some own }) (insert_of number) decision) }
-    ensures memory { OnErr result (TakesMemory (state_of (M.device memory.now).cached (record { begun = begun; running = Some own })) (answer (state_of (M.device memory.now).cached (record { begun = begun; running = Some own })) 1 (insert_of number))) }
+    ensures decided { IfOk result (λ decision.
+        IsDecision (M.device memory.now).cached (record { begun = begun; running = Some own })
+        (insert_of number) decision) }
+    ensures memory { OnErr result
+        (MayWantMemory (M.device memory.now).cached (record { begun = begun; running = Some own }) (insert_of number)) }
 {
     let row = memory.load(high()) as u32 + own.rows;
     if own.rows >= u32::from(OBJECT_ENTRIES) || row >= STAGE_ROWS {
@@ -230,8 +237,10 @@ fn get<M: Memory>(
     row: u32,
 ) -> Result<Decision, NoMemory>
     requires { IsStage (M.device memory.now).cached (Some own) }
-    ensures decided { IfOk result (λ decision. IsDecision (M.device memory.now).cached (record { begun = begun; running = Some own }) (get_of row) decision) }
-    ensures memory { OnErr result (TakesMemory (state_of (M.device memory.now).cached (record { begun = begun; running = Some own })) (answer (state_of (M.device memory.now).cached (record { begun = begun; running = Some own })) 1 (get_of row))) }
+    ensures decided { IfOk result (λ decision.
+        IsDecision (M.device memory.now).cached (record { begun = begun; running = Some own }) (get_of row) decision) }
+    ensures memory { OnErr result
+        (MayWantMemory (M.device memory.now).cached (record { begun = begun; running = Some own }) (get_of row)) }
 {
     let now = Transactions {
         begun,
@@ -281,8 +290,10 @@ fn commit<M: Memory>(
     own: Running,
 ) -> Result<Decision, NoMemory>
     requires { IsStage (M.device memory.now).cached (Some own) }
-    ensures decided { IfOk result (λ decision. IsDecision (M.device memory.now).cached (record { begun = begun; running = Some own }) call.Commit decision) }
-    ensures memory { OnErr result (TakesMemory (state_of (M.device memory.now).cached (record { begun = begun; running = Some own })) (answer (state_of (M.device memory.now).cached (record { begun = begun; running = Some own })) 1 call.Commit)) }
+    ensures decided { IfOk result (λ decision.
+        IsDecision (M.device memory.now).cached (record { begun = begun; running = Some own }) call.Commit decision) }
+    ensures memory { OnErr result
+        (MayWantMemory (M.device memory.now).cached (record { begun = begun; running = Some own }) call.Commit) }
 {
     if own.rows == 0 {
         return close(alloc, begun);

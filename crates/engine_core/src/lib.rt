@@ -1,6 +1,6 @@
 //! The core of the store: sessions that step over the words of a device, one action or one decision at a time.
 //!
-//! Layer: the engine, above `stage_object` and `built_calls`. `session_serve` steps it through a script. Today it works
+//! Layer: the engine, above `stage_view` and `built_calls`. `session_serve` steps it through a script. Today it works
 //! on a stage image (`docs/STAGE.md`) with one session.
 //!
 //! State (`CoreState`): the device, the words as they were opened, the history since, and the call in flight with what

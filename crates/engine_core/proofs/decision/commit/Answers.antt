@@ -18,7 +18,7 @@ pub returns-then-last-ge-MAX_COMMITS-clause-decided : goal.returns-then-last-ge-
 returns-then-last-ge-MAX_COMMITS-clause-decided g c =
     let words = (g.M.Memory.device c.args.memory.now).cached in
     let is_last : c.load-last.result ≡ get_or words last_at 0 = c.load-last.ensures ∙ ap (λ (k : ℕ). get_or words k 0) c.last_commit.ensures in
-    stands words _ call.Commit reply.Spent c.stand.result c.stand.ensures (spent words c.args.begun c.args.own c.requires (omega (arith, c.if-own-eq0.false)) (omega (arith, is_last, c.if-last-ge-MAX_COMMITS.true))) tt
+    stands words _ call.Commit reply.Spent c.stand.result c.stand.ensures (spent words c.args.begun c.args.own c.requires (omega (arith, c.if-own-eq0.false)) (omega (arith, is_last, c.if-last-ge-MAX_COMMITS.true))) tt tt
 
 pub returns-clause-decided : goal.returns-clause-decided
 returns-clause-decided g c =

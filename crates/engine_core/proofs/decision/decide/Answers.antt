@@ -11,9 +11,9 @@ returns-in-Err g c =
     let words = (g.M.Memory.device c.args.memory.now).cached in
     record {
       copied = refl;
-      decided = refused words c.args.now c.args.said.now reply.NoMemory c.requires.stage tt (refusals_change_nothing_lem (state_of words c.args.now) 1 c.args.said.now reply.NoMemory refl) tt tt refl c.in-Err.ensures.memory;
+      decided = refused words c.args.now c.args.said.now reply.NoMemory c.requires.stage tt (refusals_change_nothing_lem (state_of words c.args.now) 1 c.args.said.now reply.NoMemory refl) tt refl c.in-Err.ensures.memory;
       late = tt;
       open_still = tt;
       timed = tt;
-      survives = stands-survives words c.args.now c.requires.stage;
+      survives = stands-survives words c.args.now reply.NoMemory tt;
     }

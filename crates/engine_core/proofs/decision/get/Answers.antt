@@ -23,7 +23,7 @@ returns-then-row-ge-STAGE_ROWS-clause-decided g c =
       | then-row-ge-STAGE_ROWS-via-then-row-ge-STAGE_ROWS w ↦ unseen-past words c.args.own c.args.row c.requires w.if-row-ge-STAGE_ROWS.true
       | then-row-ge-STAGE_ROWS-via-else-row-ge-STAGE_ROWS+then-not-is_seen w ↦ sym w.is_seen.ensures ∙ w.if-not-is_seen.true
     ] in
-    stands words _ (get_of c.args.row) reply.NoRow c.stand.result c.stand.ensures (get-unseen words c.args.begun c.args.own.number c.args.own.rows c.args.row c.requires unseen) tt
+    stands words _ (get_of c.args.row) reply.NoRow c.stand.result c.stand.ensures (get-unseen words c.args.begun c.args.own.number c.args.own.rows c.args.row c.requires unseen) tt tt
 
 pub returns-clause-decided : goal.returns-clause-decided
 returns-clause-decided g c =
@@ -36,7 +36,7 @@ returns-clause-decided g c =
     (simp to_z-of_z at c.in_ok-values.ensures) ∙ ap (λ (n : ℤ). Int n ∷ []) (c.integer.ensures ∙ ap integer_of word) in
     stands words _ (get_of c.args.row) (reply.Values c.in_ok-values.values) c.stand-2.result (c.stand-2.ensures ∙ ap (λ (vs : List Value). record { reply = reply.Values c.in_ok-values.values; copy = reply.Values vs; plan = None; after = before; late = None }) c.in_ok-copy.ensures)
     (subst (λ (vs : List Value). IsDecided words before (get_of c.args.row) (reply.Values vs) [] before) (sym values)
-    (get-seen words c.args.begun c.args.own.number c.args.own.rows c.args.row c.requires seen)) tt
+    (get-seen words c.args.begun c.args.own.number c.args.own.rows c.args.row c.requires seen)) tt tt
 
 pub returns-in_err-values-clause-memory : goal.returns-in_err-values-clause-memory
 returns-in_err-values-clause-memory g c =

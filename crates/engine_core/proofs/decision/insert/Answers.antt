@@ -16,7 +16,7 @@ returns-then-own-from-clause-decided g c =
     let words = (g.M.Memory.device c.args.memory.now).cached in
     let is_high : c.load.result ≡ get_or words high_at 0 = c.load.ensures ∙ ap (λ (k : ℕ). get_or words k 0) c.high.ensures in
     stands words _ (insert_of c.args.number) (reply.Full 1 0) c.stand.result c.stand.ensures (insert-full words c.args.begun c.args.own.number c.args.own.rows c.args.number c.requires
-    (elim c.then-own-from.branch [ then-own-from-via-then-own-from w ↦ inl (omega (arith, c.from.ensures, w.if-own-from.true)) | then-own-from-via-else-own-from+then-row-ge-STAGE_ROWS w ↦ inr (omega (arith, is_high, w.if-row-ge-STAGE_ROWS.true)) ])) tt
+    (elim c.then-own-from.branch [ then-own-from-via-then-own-from w ↦ inl (omega (arith, c.from.ensures, w.if-own-from.true)) | then-own-from-via-else-own-from+then-row-ge-STAGE_ROWS w ↦ inr (omega (arith, is_high, w.if-row-ge-STAGE_ROWS.true)) ])) tt tt
 
 pub returns-clause-decided : goal.returns-clause-decided
 returns-clause-decided g c =

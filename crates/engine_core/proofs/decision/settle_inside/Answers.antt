@@ -17,7 +17,7 @@ use Rattle.engine_core.proofs.decision.settle_inside.Goals as goal
 pub returns-in-Begin-clause-decided : goal.returns-in-Begin-clause-decided
 returns-in-Begin-clause-decided g c =
     let words = (g.M.Memory.device c.args.memory.now).cached in
-    stands words _ c.args.said.now reply.AlreadyOpen c.stand.result c.stand.ensures (already words c.args.begun c.args.own c.args.said.now c.requires.stage c.in-Begin.is) tt
+    stands words _ c.args.said.now reply.AlreadyOpen c.stand.result c.stand.ensures (already words c.args.begun c.args.own c.args.said.now c.requires.stage c.in-Begin.is) tt tt
 
 pub returns-in-Int-clause-decided : goal.returns-in-Int-clause-decided
 returns-in-Int-clause-decided g c =
