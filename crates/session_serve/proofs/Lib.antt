@@ -5,3 +5,4 @@ pub mod Writes
 pub mod Served
 pub mod StatusOf
 pub mod Dues
+pub mod Shortages

@@ -48,7 +48,7 @@ module _ (cut : Option ℕ) (keep : Keep) (image image_now input input_now : Sou
       → EndsScript given cut keep (streams image input image_out out) (streams image_now input_now image_out out)
   ends-no_script (status.BadScript number rule) words read is = record { words = words; read_image = read; read_script = is }
   ends-no_script status.ReadFault words read is = inr ((words, read), is)
-  ends-no_script status.NoMemory words read is = inr ((words, read), is)
+  ends-no_script status.NoMemory words read is = inr (inl ((words, read), is))
   ends-no_script status.InputTooLong words read is = inr ((words, read), is)
   ends-no_script status.Done words read is = absurd is
   ends-no_script status.Usage words read is = absurd is
@@ -90,7 +90,7 @@ module _ (cut : Option ℕ) (keep : Keep) (image image_now input input_now : Sou
       run = record { image = ran.image; text = ran.text; left = ran.left; written = ran.written };
     })
     ends-ran (status.BadImage rule place) ran = record { words = words; script = script; read_image = read; read_script = said; fault_is = ran }
-    ends-ran status.NoMemory ran = inr ((words, read), said.read.kept)
+    ends-ran status.NoMemory ran = inr (inr (record { words = words; script = script; read_image = read; read_script = said; rules = ran }))
     ends-ran status.Usage ran = absurd ran
     ends-ran (status.BadScript number rule) ran = absurd ran
     ends-ran (status.BadBytes error) ran = absurd ran

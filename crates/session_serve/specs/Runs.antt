@@ -1,16 +1,17 @@
 -- What a call of `run` has done, by its status, and which statuses it may end with.
-use Rattle.std.specs.Prelude.{ℕ, ◌≡◌, ◌⊎◌, ◌+◌, ◌≤◌, ◌++◌, nat_lt, List, length, Option, None, Some, Result, Ok, Err, Bool, true, false}
+use Rattle.std.specs.Prelude.{ℕ, ◌≡◌, ◌≢◌, ◌⊎◌, ◌+◌, ◌≤◌, ◌++◌, nat_lt, List, length, Option, None, Some, IfSome, Result, Ok, Err, Bool, true, false}
 use Rattle.std.specs.Io.KnownBytes.{Appends, Consumes, IsAtEnd}
 use Rattle.io_edge.specs.Faults.{Rose, one_more}
 use Rattle.io_edge.specs.Streams.{SinkState, SourceState}
 use Rattle.io_edge.specs.Transfer.{Loses}
 use Rattle.io_edge.specs.declared.reading.TheConstants.{LIMIT}
 use Rattle.pm_model.specs.declared.action.Keep.{Keep}
-use Rattle.image_layout.specs.Checks.{Fault}
+use Rattle.image_layout.specs.Checks.{Fault, first_fault as first_broken}
 use Rattle.pm_model.specs.Device.{IsCrashImage, image_of}
 use Rattle.pm_image.specs.declared.error.ImageError.{ImageError}
-use Rattle.pm_image.specs.Fault.{first_fault}
+use Rattle.pm_image.specs.Fault.{HasHeader, first_fault}
 use Rattle.pm_image.specs.Spelling.{IsImage, spelling}
+use Rattle.engine_core.specs.ImageRules.{entry_rules}
 use Rattle.engine_core.specs.Opening.{opening_fault}
 use Rattle.engine_core.specs.Stage.{stage_words}
 use Rattle.script_text.specs.declared.script.Line.{Line}
@@ -47,20 +48,23 @@ pub record Streams : Type 0 where
 abbrev pub streams : SourceState → SourceState → SinkState → SinkState → Streams
 streams image input image_out out = record { image = image; input = input; outputs = outputs image_out out }
 
--- the source was read to its end and gave these bytes, and it has not failed
+-- the source was read to its end, which was seen once, and gave these bytes, and it has not failed
 pub record ReadsToEnd (before after : SourceState) (bytes : List ℕ) : Type 0 where
   pub gave : Consumes before.left after.left bytes
   pub end : IsAtEnd after.left
+  pub ends : after.ends ≡ one_more before.ends
   pub within : length bytes ≤ LIMIT
   pub kept : after.faults ≡ before.faults
 
 -- one byte past the limit was taken, and the source has not failed
 pub record IsTooLong (before after : SourceState) : Type 0 where
   pub taken : Loses before.left after.left (λ count. count ≡ LIMIT + 1)
+  pub ends : after.ends ≡ before.ends
   pub kept : after.faults ≡ before.faults
 
--- the source has failed
+-- the source has failed, and its end wasn't seen
 pub record FailsToRead (before after : SourceState) : Type 0 where
+  pub ends : after.ends ≡ before.ends
   pub rose : Rose before.faults after.faults
   pub later : before.faults ≤ after.faults
 
@@ -191,9 +195,33 @@ ReadsInOrder Holds before after =
     (Holds before.image after.image × (after.input ≡ before.input))
     ⊎ (ReadsSomeImage before.image after.image × Holds before.input after.input)
 
--- the source has not failed
-abbrev pub KeepsCount : SourceState → SourceState → Type 0
-KeepsCount before after = after.faults ≡ before.faults
+-- where the source tells its bytes and its end was seen, this holds of the bytes
+abbrev pub OfWholeInput : (List ℕ → Type 0) → SourceState → SourceState → Type 0
+OfWholeInput Holds before after = IfSome before.left (λ bytes. after.ends ≢ before.ends → Holds bytes)
+
+-- memory ran out before an image was read: its source has not failed, and at its end the header had no fault
+pub record LacksImage (before after : SourceState) : Type 0 where
+  pub kept : after.faults ≡ before.faults
+  pub header : OfWholeInput HasHeader before after
+
+-- memory ran out before a script was read: its source has not failed
+pub record LacksScript (before after : SourceState) : Type 0 where
+  pub kept : after.faults ≡ before.faults
+
+-- the image and the script were read, and the image keeps the rules that are tried without memory
+pub record ReadsBoth (before after : Streams) : Type 0 where
+  pub words : List ℕ
+  pub script : List Line
+  pub read_image : ReadsImage before.image after.image words
+  pub read_script : ReadsScript before.input after.input (Ok script)
+  pub rules : first_broken entry_rules words ≡ None
+
+-- what was good until memory ran out
+abbrev pub RunsOut : Streams → Streams → Type 0
+RunsOut before after =
+    (LacksImage before.image after.image × (after.input ≡ before.input))
+    ⊎ (ReadsSomeImage before.image after.image × LacksScript before.input after.input)
+    ⊎ ReadsBoth before after
 
 -- what `script` has done, where it ends with this status
 abbrev pub EndsScript : Status → Option ℕ → Keep → Streams → Streams → Type 0
@@ -208,7 +236,7 @@ EndsScript status.PowerCut cut keep before after = RanScript (IsCutOff cut keep)
 EndsScript status.ReadFault cut keep before after = ReadsInOrder FailsToRead before after
 EndsScript status.WriteFault cut keep before after =
     RanScript (Finishes cut) WritesFront before after ⊎ RanScript (IsCutOff cut keep) WritesFront before after
-EndsScript status.NoMemory cut keep before after = ReadsInOrder KeepsCount before after
+EndsScript status.NoMemory cut keep before after = RunsOut before after
 EndsScript status.InputTooLong cut keep before after = ReadsInOrder IsTooLong before after
 
 -- what `format` has done, where it ends with this status

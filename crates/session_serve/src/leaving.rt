@@ -1,8 +1,12 @@
 // What a run leaves: the bytes of an image and of a text.
-ghost use Rattle.std.specs.Prelude.{◌≡◌, ◌≤◌, ◌%◌, ℕ, List, None, length, All, IfOk, IfErr};
-ghost use Rattle.pm_image.specs.Spelling.{IsImage};
+ghost use Rattle.std.specs.Prelude.{◌≡◌, ℕ, List, None, All, IfOk, IfErr, IsErrOf};
+ghost use Rattle.image_layout.specs.Checks.{first_fault};
+ghost use Rattle.pm_model.specs.Plain.{device_of};
+ghost use Rattle.pm_model.specs.Plans.{at_rest};
+ghost use Rattle.engine_core.specs.ImageRules.{entry_rules};
 ghost use Rattle.engine_core.specs.Opened.{IsRefusal};
 ghost use Rattle.engine_core.specs.Opening.{opening_fault, recovered};
+ghost use Rattle.engine_core.specs.declared.store_core.OpenError.TheVariants.{NoMemory as OutOfMemory};
 ghost use Rattle.script_text.specs.Printed.{history_text};
 ghost use Rattle.script_text.specs.Script.{IsBuiltLine};
 ghost use Rattle.session_serve.specs.Parts.{IsLeftBy, LeavesBy, kept_by};
@@ -65,33 +69,35 @@ fn play_core<M: Memory>(
     })
 }
 
-/// Opens the image of these words.
-fn open(alloc: Global, words: Vec<u64>) -> Result<Core<Plain>, OpenError>
-    requires { IsImage words.items }
+/// Opens the image of this memory.
+fn open(alloc: Global, memory: Plain) -> Result<Core<Plain>, OpenError>
+    requires { device_of memory ≡ at_rest (device_of memory).cached }
     ensures fresh { IfOk result (λ core. IsFresh core) }
-    ensures opened { IfOk result (λ core. core.opened ≡ recovered words.items) }
-    ensures accepted { IfOk result (λ core. opening_fault words.items ≡ None) }
-    ensures refused { IfErr result (λ error. IsRefusal error (opening_fault words.items)) }
+    ensures opened { IfOk result (λ core. core.opened ≡ recovered (device_of memory).cached) }
+    ensures accepted { IfOk result (λ core. opening_fault (device_of memory).cached ≡ None) }
+    ensures refused { IfErr result (λ error. IsRefusal error (opening_fault (device_of memory).cached)) }
+    ensures rules { IsErrOf result OutOfMemory → first_fault entry_rules (device_of memory).cached ≡ None }
 {
-    let memory = Plain::new(alloc, words)?;
     Core::from_memory(alloc, memory)
 }
 
-/// Opens the image of these words, and runs a script over it.
+/// Opens the image of this memory, and runs a script over it. Where memory runs out, the image keeps the rules that are
+/// tried without any.
 pub(crate) fn play(
     alloc: Global,
-    words: Vec<u64>,
+    memory: Plain,
     script: Script,
     cut: Option<u64>,
     keep: Keep,
 ) -> Result<Left, OpenError>
-    requires image { IsImage words.items }
+    requires rests { device_of memory ≡ at_rest (device_of memory).cached }
     requires built { All IsBuiltLine script }
     ensures left { IfOk result (λ left.
-        LeavesBy left.ending cut keep words.items script left.image.items left.text.items) }
-    ensures refused { IfErr result (λ error. IsRefusal error (opening_fault words.items)) }
+        LeavesBy left.ending cut keep (device_of memory).cached script left.image.items left.text.items) }
+    ensures refused { IfErr result (λ error. IsRefusal error (opening_fault (device_of memory).cached)) }
+    ensures rules { IsErrOf result OutOfMemory → first_fault entry_rules (device_of memory).cached ≡ None }
 {
-    let mut core = match open(alloc, words) {
+    let mut core = match open(alloc, memory) {
         Ok(core) => core,
         Err(error) => {
             drop(script);

@@ -1,5 +1,7 @@
 ghost use Rattle.std.specs.Prelude.{◌≡◌, ◌≤◌, List, ℕ, Ok, None, All, IfOk, IfErr, IfSome, OnErr, OnOk, map, string_bytes};
 ghost use Rattle.pm_image.specs.Spelling.{IsImage};
+ghost use Rattle.pm_model.specs.Plain.{device_of};
+ghost use Rattle.pm_model.specs.Plans.{at_rest};
 ghost use Rattle.engine_core.specs.Opening.{opening_fault};
 ghost use Rattle.script_text.specs.Script.{IsBuiltLine};
 ghost use Rattle.command_line.specs.Words.{job_of};
@@ -13,7 +15,7 @@ use command_line::read_job;
 use engine_core::{OpenError, stage_fresh};
 use io_edge::{Failed, ReadAllError, Sink, Source, read_all, write_all};
 use pm_image::{ImageError, decode, encode};
-use pm_model::Keep;
+use pm_model::{Keep, Plain};
 use script_text::{Script, ScriptError, read_script};
 use std::alloc::Global;
 
@@ -85,24 +87,24 @@ fn write_left<J: Sink, O: Sink>(left: &Left, image_out: &mut J, out: &mut O) -> 
     }
 }
 
-/// Runs a script over the image of these words, and writes what it leaves.
+/// Runs a script over the image of this memory, and writes what it leaves.
 fn play_and_write<J: Sink, O: Sink>(
     alloc: Global,
-    words: Vec<u64>,
+    memory: Plain,
     script: Script,
     cut: Option<u64>,
     keep: Keep,
     image_out: &mut J,
     out: &mut O,
 ) -> Status
-    requires image { IsImage words.items }
+    requires rests { device_of memory ≡ at_rest (device_of memory).cached }
     requires built { All IsBuiltLine script }
-    ensures ran { RanWords result cut keep words.items script
+    ensures ran { RanWords result cut keep (device_of memory).cached script
         (outputs (J.state image_out.old) (O.state out.old)) (outputs (J.state image_out.new) (O.state out.new)) }
     ensures image_unwritten { UnlessWritten result (image_out.new ≡ image_out.old) }
     ensures unwritten { UnlessWritten result (out.new ≡ out.old) }
 {
-    match play(alloc, words, script, cut, keep) {
+    match play(alloc, memory, script, cut, keep) {
         Ok(left) => write_left(&left, image_out, out),
         Err(OpenError::BadImage { rule, place }) => Status::BadImage { rule, place },
         Err(OpenError::NoMemory) => Status::NoMemory,
@@ -131,11 +133,14 @@ fn read_and_play<I: Source, S: Source, J: Sink, O: Sink>(
         Ok(words) => words,
         Err(status) => return status,
     };
+    let Ok(memory) = Plain::new(alloc, words) else {
+        return Status::NoMemory;
+    };
     let script = match read_lines(alloc, input) {
         Ok(script) => script,
         Err(status) => return status,
     };
-    play_and_write(alloc, words, script, cut, keep, image_out, out)
+    play_and_write(alloc, memory, script, cut, keep, image_out, out)
 }
 
 /// Writes the image of a formatted device.
