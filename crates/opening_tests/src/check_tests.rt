@@ -205,16 +205,56 @@ fn columns_in_extensions_are_tried(rt: HostRuntime) -> Result<(), Fail> {
     Ok(())
 }
 
+// A second table `u a:int b:text`, whose block is the second slot of page 4, with its second column in the first
+// extension of the table `t`.
+const SHARED_EXTENSION: [Change; 9] = [
+    (515, 2),
+    (521, BLOCK + 128),
+    (2048, 3),
+    (2184, 2),
+    (2186, 117),
+    (2189, EXTENSION),
+    (2190, 1),
+    (2224, 1),
+    (2225, 97),
+];
+
 #[test]
-fn version_1_is_not_sound(rt: HostRuntime) -> Result<(), Fail> {
-    let cases: [(&[Change], Told); 4] = [
-        (&[], Some((31, 513))),
-        (&[(2062, 7)], Some((31, 513))),
-        (&[(2041, 1)], Some((18, 2041))),
-        (&[(513, 2), (2062, 1)], None),
+fn an_extension_has_one_table(rt: HostRuntime) -> Result<(), Fail> {
+    let cases: [(&[Change], Told); 3] = [
+        (&[], Some((20, 2189))),
+        // The table reaches its own extension again.
+        (&[(2568, EXTENSION)], Some((9, 2568))),
+        (&[(2184, 1), (2189, 0)], None),
     ];
     for (changes, told) in cases {
-        let found = told_of(rt.alloc(), &[&TABLE, &FIRST_VERSION, changes])?;
+        let found = told_of(
+            rt.alloc(),
+            &[&TABLE, &EXTENSIONS, &MOVED_ROWS, &SHARED_EXTENSION, changes],
+        )?;
+        assert_eq!(rt; found, Some(told), "{changes:?}");
+    }
+    Ok(())
+}
+
+#[test]
+fn version_1_is_not_sound(rt: HostRuntime) -> Result<(), Fail> {
+    let cases: [(&[Change], &[Change], Told); 7] = [
+        (&[], &[], Some((31, 513))),
+        (&[], &[(2062, 7)], Some((31, 513))),
+        (&[], &[(2041, 1)], Some((18, 2041))),
+        (&[], &[(513, 2), (2062, 1)], None),
+        // With rows, some of which commits created; and with dead ones alone.
+        (&ROWS, &[], Some((31, 513))),
+        (
+            &ROWS,
+            &[(2560, u64::MAX), (2561, u64::MAX), (3073, 0)],
+            Some((31, 513)),
+        ),
+        (&ROWS, &[(2563, 4)], Some((27, 2563))),
+    ];
+    for (rows, changes, told) in cases {
+        let found = told_of(rt.alloc(), &[&TABLE, rows, &FIRST_VERSION, changes])?;
         assert_eq!(rt; found, Some(told), "{changes:?}");
     }
     Ok(())

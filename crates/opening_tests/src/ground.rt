@@ -29,6 +29,32 @@ pub(crate) const LAST_PAGE: u64 = 4_294_999_552;
 /// The pointer to page 5.
 pub(crate) const PAGE_5: u64 = 4_294_969_856;
 
+/// A row of the table with the value 7, which commit 1 created. The first chunks of the arrays of creators, of enders,
+/// of codes and of the dictionary are the pages 5 to 8, and the leaf is the second slot of page 4.
+pub(crate) const VALUE: [Change; 21] = [
+    (514, 1),
+    (2057, 1),
+    (5, 17),
+    (6, 17),
+    (7, 17),
+    (8, 17),
+    (2064, 1),
+    (2065, PAGE_5),
+    (2080, 1),
+    (2081, PAGE_5 + 512),
+    (2104, 1),
+    (2105, PAGE_5 + 1024),
+    (2120, 1),
+    (2121, PAGE_5 + 1536),
+    (2560, 1),
+    (4096, (1 << 63) + 7),
+    (2048, 3),
+    (2100, BLOCK + 128),
+    (2184, 1),
+    (2186, 135),
+    (2192, (1 << 63) + 7),
+];
+
 /// What makes the image with the table one of version 1.
 pub(crate) const FIRST_VERSION: [Change; 2] = [(513, 1), (2062, 0)];
 

@@ -4,7 +4,7 @@ ghost use Rattle.std.specs.Prelude.{◌≡◌, ◌≤◌, IfOk, IsTrue, None};
 ghost use Rattle.image_layout.specs.Checks.{first_fault};
 ghost use Rattle.pmem_recover.specs.EntryRules.{entry_rules};
 
-use crate::ground::{BLOCK, Change, FIRST_VERSION, PAGE_5, TABLE, image};
+use crate::ground::{BLOCK, Change, FIRST_VERSION, PAGE_5, TABLE, VALUE, image};
 use pm_model::{Action, Keep, Memory, Place, Plain, Plan, fresh};
 use pmem_recover::{
     NoMemory, check_entry, next_clear, next_idle, next_lane, next_last, next_slot, next_undo,
@@ -527,8 +527,9 @@ const VERSION_ALONE: [Action; 3] = [store!(513, 2), flush!(64), Action::Fence];
 
 #[test]
 fn version_1_becomes_version_2(rt: HostRuntime) -> Result<(), Fail> {
-    let cases: [Case; 5] = [
+    let cases: [Case; 6] = [
         (&[], 0, Some((0, &BOTH_WORDS))),
+        (&VALUE, 0, Some((0, &BOTH_WORDS))),
         (&[], 1, None),
         (&[(2062, 1)], 0, Some((0, &VERSION_ALONE))),
         (&[(2062, 1), (513, 2)], 0, None),
@@ -619,21 +620,34 @@ fn mend_lanes<M: Memory>(rt: &impl Abort, alloc: Global, memory: &mut M) -> Resu
     Ok(())
 }
 
-// What a power cut leaves of the image of version 1 after so many actions of the step to version 2, and then the step
-// anew.
+// What a power cut leaves of the image of version 1 with a row after so many actions of the step to version 2.
 fn cut_version(
     rt: &impl Abort,
     alloc: Global,
     played: usize,
     keep: Keep,
 ) -> Result<Vec<u64>, NoMemory> {
-    let words = image(alloc, &[&TABLE, &FIRST_VERSION])?;
+    let words = image(alloc, &[&TABLE, &VALUE, &FIRST_VERSION])?;
     assert_eq!(rt; words.len(), 32768);
     let mut memory = Plain::new(alloc, words)?;
     for action in BOTH_WORDS.iter().take(played) {
         act(rt, &mut memory, 0, *action);
     }
-    let cut = memory.choose(keep)?;
+    memory.choose(keep)
+}
+
+// Whether two images have the same words beside those that the step stores: no word of a table's name, columns, rows or
+// values is one of these.
+fn show_the_same(words: &[u64], others: &[u64]) -> bool {
+    let mut same = words.len() == others.len();
+    for (place, (word, other)) in words.iter().zip(others).enumerate() {
+        same = same && (word == other || place == 513 || place == 2062);
+    }
+    same
+}
+
+// The words that the step comes to from an image.
+fn of_version_2(rt: &impl Abort, alloc: Global, cut: Vec<u64>) -> Result<Vec<u64>, NoMemory> {
     assert_eq!(rt; cut.len(), 32768);
     let mut opened = Plain::new(alloc, cut)?;
     if let Some((_, mut plan)) = next_plan(rt, alloc, &opened, Step::Version, 0)? {
@@ -645,10 +659,12 @@ fn cut_version(
 #[test]
 fn a_cut_step_to_version_2_is_made_anew(rt: HostRuntime) -> Result<(), Fail> {
     let alloc = rt.alloc();
-    let second = image(alloc, &[&TABLE])?;
+    let second = image(alloc, &[&TABLE, &VALUE])?;
     for played in 0..=6 {
         for keep in [Keep::Nothing, Keep::All] {
-            let words = cut_version(&rt, alloc, played, keep)?;
+            let cut = cut_version(&rt, alloc, played, keep)?;
+            assert!(rt; show_the_same(&cut, &second), "{played}");
+            let words = of_version_2(&rt, alloc, cut)?;
             assert!(rt; words == second, "{played}");
         }
     }
