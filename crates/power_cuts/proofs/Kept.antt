@@ -7,12 +7,12 @@ use Rattle.std.proofs.lemmas.List.Elements.{All-nil}
 use Rattle.image_layout.specs.Fixed.{lane_op_at, ready_at, first_segment_at, table_count_at, table_slot_at}
 use Rattle.image_layout.specs.Places.{below}
 use Rattle.image_layout.specs.Objects.{segment_pointer_at}
-use Rattle.image_layout.specs.Checks.{Keeps, first_fault}
+use Rattle.image_layout.specs.Checks.{Keeps, first_failing, first_fault}
 use Rattle.image_layout.specs.HeapRules.{reserved_rule}
 use Rattle.image_layout.specs.EntryRules.{table_count_rule, table_slot_rule, objects_rule}
 use Rattle.image_layout.specs.SoundRules.{table_name_checks, distinct_name_rule}
 use Rattle.image_layout.specs.Tables.{table_block}
-use Rattle.image_layout.proofs.Faults.{Holds, keeps_all}
+use Rattle.image_layout.proofs.Faults.{Holds, all_hold, keeps_all}
 use Rattle.image_layout.proofs.OwnedBlocks.{one_object}
 use Rattle.heap_palloc.specs.Index.{HeapIndex, IsIndexOf}
 use Rattle.heap_palloc.specs.Calls.{KeepsHeapRules}
@@ -78,4 +78,13 @@ keeps_tables words none count = record {
   table_slots = keeps_table_slots words none;
   names = keeps_all entry_rules words none 10 (record { number = 0; rule = reserved_rule }) (omega arith);
   distinct_names = no_names words count;
+}
+
+-- tables whose names differ may be read back
+pub keeps_named_tables : (words : List ℕ) → first_fault entry_rules words ≡ None → first_failing (distinct_name_rule words) ≡ None → KeepsTableRules words
+keeps_named_tables words none distinct = record {
+  table_count = keeps_table_count words none;
+  table_slots = keeps_table_slots words none;
+  names = keeps_all entry_rules words none 10 (record { number = 0; rule = reserved_rule }) (omega arith);
+  distinct_names = record { checks = all_hold (distinct_name_rule words) distinct };
 }

@@ -14,9 +14,10 @@
 //! Cuts, each after every action and then opened:
 //! - `tests`: those of a transaction of the engine, and those of the openings behind them;
 //! - `structures`: those of the first extension of an object and of the creation of a table;
-//! - `object_cuts`: those of the extension of an object with a segment and 63 entries, which `objects` makes.
+//! - `object_cuts`: those of the extension of an object with a segment and 63 entries, which `objects` makes;
+//! - `versions`: those of the opening of an image of version 1 with two tables.
 //!
-//! `opening` has the steps of opening that the last two play.
+//! `opening` has the steps of opening that the last three play.
 #![tactic(auto)]
 
 mod witness;
@@ -33,3 +34,5 @@ mod opening;
 mod structures;
 #[cfg(test)]
 mod tests;
+#[cfg(test)]
+mod versions;

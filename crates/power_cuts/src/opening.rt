@@ -4,7 +4,7 @@ ghost use Rattle.std.specs.Prelude.{◌≤◌};
 use img_check::check;
 use pm_model::{Action, Keep, Memory, NoMemory, Plan};
 use pmem_recover::{
-    check_entry, next_clear, next_idle, next_lane, next_last, next_slot, next_undo,
+    check_entry, next_clear, next_idle, next_lane, next_last, next_slot, next_undo, next_version,
 };
 use std::alloc::Global;
 use std::process::Abort;
@@ -62,15 +62,17 @@ pub(crate) enum Step {
     Undo,
     Idle,
     Clear,
+    Version,
 }
 
-const STEPS: [Step; 6] = [
+const STEPS: [Step; 7] = [
     Step::Lanes,
     Step::Slot,
     Step::Last,
     Step::Undo,
     Step::Idle,
     Step::Clear,
+    Step::Version,
 ];
 
 // The next plan of a step, on an image whose rules are tried first.
@@ -90,6 +92,7 @@ fn next_plan<M: Memory>(
             Step::Undo => next_undo(alloc, memory, from),
             Step::Idle => next_idle(alloc, memory, from),
             Step::Clear => next_clear(alloc, memory, from),
+            Step::Version => next_version(alloc, memory, from),
         },
         Err(_) => panic!(rt; "the image breaks a rule"),
     }

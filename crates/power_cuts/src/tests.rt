@@ -61,7 +61,7 @@ fn opened(rt: &impl Abort, alloc: Global, image: &[u64]) -> Result<(Vec<u64>, u6
 }
 
 /// A copy of the image that was taken.
-fn taken<M: Memory>(
+pub(crate) fn taken<M: Memory>(
     rt: &impl Abort,
     alloc: Global,
     memory: &Witness<M>,
