@@ -1,5 +1,5 @@
--- Arrays that grow by chunks. An array is named by the place of its header: how many chunks are published, and behind that
--- the pointers to up to 12 chunks.
+-- Arrays that grow by chunks. An array is named by the place of its header: how many chunks are published, and behind
+-- that the pointers to up to 12 chunks.
 use Rattle.std.specs.Prelude.{ℕ, zero, suc, ◌+◌, ◌-◌, ◌*◌, ◌^◌, min, Bool, ◌==◌, nat_lt, nat_le, if◌then◌else◌, List, ◌∷◌, map, count_by, slice_index}
 use Rattle.image_layout.specs.Places.{below, place_in, is_pointer_to, is_null_or_pointer_to}
 use Rattle.image_layout.specs.Checks.{check, Rule}
@@ -49,8 +49,8 @@ array_word words header index = slice_index words (place_of words header index)
 abbrev pub array_places : List ℕ → ℕ → ℕ → List ℕ
 array_places words header count = map (place_of words header) (below count)
 
--- The pointer to a published chunk names so many words of one segment. The one behind them is null, or such a pointer: a
--- chunk that the array owns and hasn't published. All others are null.
+-- The pointer to a published chunk names so many words of one segment. The one behind them is null, or such a pointer:
+-- a chunk that the array owns and hasn't published. All others are null.
 abbrev pub is_chunk_pointer : List ℕ → ℕ → ℕ → ℕ → Bool
 is_chunk_pointer words count chunk pointer =
     (if nat_lt chunk count then is_pointer_to words (chunk_words chunk) pointer
@@ -60,4 +60,6 @@ is_chunk_pointer words count chunk pointer =
 unfoldable pub array_rule : ℕ → Rule
 array_rule header words =
     check header (nat_le (chunk_count words header) 12)
-    ∷ map (λ chunk. check (chunk_pointer_at header chunk) (is_chunk_pointer words (chunk_count words header) chunk (slice_index words (chunk_pointer_at header chunk)))) (below 12)
+    ∷ map (λ chunk. check (chunk_pointer_at header chunk)
+    (is_chunk_pointer words (chunk_count words header) chunk (slice_index words (chunk_pointer_at header chunk))))
+    (below 12)

@@ -50,7 +50,8 @@ inside_after (suc inside) descriptor = inside
 -- how many pages are left, from this page of the segment on, of a big block that began before it
 abbrev pub inside_at : List ℕ → ℕ → ℕ → ℕ
 inside_at words segment zero = 0
-inside_at words segment (suc page) = inside_after (inside_at words segment page) (slice_index words (segment * 32768 + page))
+inside_at words segment (suc page) =
+    inside_after (inside_at words segment page) (slice_index words (segment * 32768 + page))
 
 -- the page stands inside a big block, behind its head: its descriptor isn't read
 unfoldable pub is_inside : List ℕ → ℕ → Bool
@@ -90,19 +91,22 @@ slot_in class place = (place % 512 - 8) / slot_words class
 
 -- the block of a slot, and the big block that begins at a page
 abbrev pub small_block : List ℕ → ℕ → ℕ → Block
-small_block words page slot = record { first = slot_at page (class_of words page) slot; words = slot_words (class_of words page) }
+small_block words page slot =
+    record { first = slot_at page (class_of words page) slot; words = slot_words (class_of words page) }
 
 abbrev pub big_block : List ℕ → ℕ → Block
 big_block words page = record { first = page_at page; words = 512 * (descriptor_of words page - 16) }
 
 -- the slots of a small page whose bit is set
 abbrev pub used_slots : List ℕ → ℕ → List ℕ
-used_slots words page = filter (λ slot. bit_at (bitmap_of words page) slot == 1) (below (slots_of (class_of words page)))
+used_slots words page =
+    filter (λ slot. bit_at (bitmap_of words page) slot == 1) (below (slots_of (class_of words page)))
 
 -- the live blocks that begin in a page, by whether it is a small page, and whether it is a big block's head
 abbrev pub blocks_if : Bool → Bool → List ℕ → ℕ → List Block
 blocks_if small big words page =
-    (if small then map (small_block words page) (used_slots words page) else if big then big_block words page ∷ [] else [])
+    (if small then map (small_block words page) (used_slots words page)
+    else if big then big_block words page ∷ [] else [])
 
 unfoldable pub blocks_of_page : List ℕ → ℕ → List Block
 blocks_of_page words page = blocks_if (is_small_page words page) (is_big_head words page) words page
@@ -118,18 +122,21 @@ is_live words place count = list_any (λ block. (block.first == place) && (block
 -- how many neighbouring pages up to a page of a segment are free
 abbrev pub free_up_to : List ℕ → ℕ → ℕ → ℕ
 free_up_to words segment zero = 0
-free_up_to words segment (suc page) = (if is_free_page words (segment * 64 + page) then free_up_to words segment page + 1 else 0)
+free_up_to words segment (suc page) =
+    (if is_free_page words (segment * 64 + page) then free_up_to words segment page + 1 else 0)
 
 -- the greatest number of neighbouring free pages of one segment
 abbrev pub longest_free_run : List ℕ → ℕ
-longest_free_run words = fold max 0 (map (λ page. free_up_to words (page / 64) (page % 64 + 1)) (below (page_count words)))
+longest_free_run words =
+    fold max 0 (map (λ page. free_up_to words (page / 64) (page % 64 + 1)) (below (page_count words)))
 
 -- whether a place is that of a slot of a small page
 abbrev pub is_slot : List ℕ → ℕ → Bool
 is_slot words place =
     is_small_page words (page_of place)
     && nat_lt (slot_in (class_of words (page_of place)) place) (slots_of (class_of words (page_of place)))
-    && (slot_at (page_of place) (class_of words (page_of place)) (slot_in (class_of words (page_of place)) place) == place)
+    && (slot_at (page_of place) (class_of words (page_of place)) (slot_in (class_of words (page_of place)) place)
+    == place)
 
 -- A pointer that can be a block's: to a slot of a small page, or to the first word of a page that isn't reserved.
 -- A place that 512 divides is that of a big block.

@@ -40,7 +40,8 @@ or_else (Some fault) other = Some fault
 
 -- the fault of a rule, where one of its checks fails
 abbrev pub fault_of : List ℕ → Numbered → Option Fault
-fault_of words rule = option_map (λ place. record { rule = rule.number; place = place }) (first_failing (rule.rule words))
+fault_of words rule =
+    option_map (λ place. record { rule = rule.number; place = place }) (first_failing (rule.rule words))
 
 -- the first fault among rules that are tried in this order
 abbrev pub first_fault : List Numbered → List ℕ → Option Fault

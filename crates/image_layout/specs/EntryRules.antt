@@ -1,5 +1,6 @@
--- The rules that every image keeps, also one that a power cut left. They are tried in the order of `entry_rules`; a rule may
--- rely on those before it. Those of the heap and of lanes stand in `HeapRules`, and that of one array in `Arrays`.
+-- The rules that every image keeps, also one that a power cut left. They are tried in the order of `entry_rules`; a
+-- rule may rely on those before it. Those of the heap and of lanes stand in `HeapRules`, and that of one array in
+-- `Arrays`.
 use Rattle.std.specs.Prelude.{ℕ, ◌+◌, ◌-◌, ◌/◌, ◌^◌, min, Bool, not, ◌&&◌, ◌||◌, ◌==◌, nat_lt, nat_le, if◌then◌else◌, Option, List, [], ◌∷◌, ◌++◌, map, filter, slice_index}
 use Rattle.std.specs.List.{flat_map, list_any}
 use Rattle.image_layout.specs.Fixed.{commit_word_at, last_at, magic_at, ready_at, state_at, table_count_at, table_slot_at, version_at}
@@ -86,7 +87,8 @@ table_slot_rule words = flat_map (table_slot_checks words) (below 32)
 
 -- 10: the arrays of each table
 unfoldable pub arrays_rule : Rule
-arrays_rule words = flat_map (λ block. flat_map (λ header. array_rule header words) (array_headers words block)) (table_blocks words)
+arrays_rule words =
+    flat_map (λ block. flat_map (λ header. array_rule header words) (array_headers words block)) (table_blocks words)
 
 -- the word at a place is null or the pointer of a leaf's block
 abbrev pub leaf_pointer_check : List ℕ → ℕ → Check
@@ -132,19 +134,22 @@ is_name_byte byte = is_letter byte || (nat_le 48 byte && nat_le byte 57) || (byt
 abbrev pub is_padded_name_byte : List ℕ → ℕ → ℕ → Bool
 is_padded_name_byte words place byte =
     (if byte == 0 then is_letter (packed_byte words place 0)
-    else (packed_byte words place byte == 0) || (is_name_byte (packed_byte words place byte) && not (packed_byte words place (byte - 1) == 0)))
+    else (packed_byte words place byte == 0)
+    || (is_name_byte (packed_byte words place byte) && not (packed_byte words place (byte - 1) == 0)))
 
 unfoldable pub name_checks : List ℕ → ℕ → List Check
 name_checks words place = map (λ byte. check (place + byte / 8) (is_padded_name_byte words place byte)) (below 24)
 
 abbrev pub kind_check : List ℕ → ℕ → Check
-kind_check words column = check (kind_at column) ((slice_index words (kind_at column) == 1) || (slice_index words (kind_at column) == 2))
+kind_check words column =
+    check (kind_at column) ((slice_index words (kind_at column) == 1) || (slice_index words (kind_at column) == 2))
 
 -- in version 2 a column that stands in its table's block has a word for every row
 unfoldable pub since_checks : List ℕ → ℕ → ℕ → List Check
 since_checks words block column =
     (if not (is_first_version words) && nat_lt column (inner_columns words block)
-    then check (since_at (column_record words block column)) (since_of words (column_record words block column) == 0) ∷ []
+    then check (since_at (column_record words block column)) (since_of words (column_record words block column) == 0)
+    ∷ []
     else [])
 
 -- a column of a table by its number
@@ -168,7 +173,8 @@ is_text_pointer words word =
 
 unfoldable pub text_key_checks : List ℕ → ℕ → List Check
 text_key_checks words leaf =
-    map (λ slot. check (key_at leaf slot) (is_text_pointer words (slice_index words (key_at leaf slot)))) (leaf_slots words leaf)
+    map (λ slot. check (key_at leaf slot) (is_text_pointer words (slice_index words (key_at leaf slot))))
+    (leaf_slots words leaf)
 
 -- the columns of texts
 abbrev pub text_columns : List ℕ → List ℕ
@@ -176,7 +182,8 @@ text_columns words = filter (is_text words) (all_columns words)
 
 -- 13: the used keys of a tree of texts
 unfoldable pub text_key_rule : Rule
-text_key_rule words = flat_map (λ column. flat_map (text_key_checks words) (leaf_list words column)) (text_columns words)
+text_key_rule words =
+    flat_map (λ column. flat_map (text_key_checks words) (leaf_list words column)) (text_columns words)
 
 -- a segment's pointer: the segment lies in one segment of the image, and the object hasn't reached it before
 abbrev pub is_segment_pointer : List ℕ → ℕ → ℕ → Bool
@@ -189,10 +196,13 @@ is_segment_pointer words object segment =
 unfoldable pub object_rule : ℕ → Rule
 object_rule object words =
     check (state_at object) (nat_le (slice_index words (state_at object)) 1)
-    ∷ check (commit_word_at object) (nat_le (commit_word words object) (min (slice_index words last_at + 1) (2 ^ 40 - 1)))
+    ∷ check (commit_word_at object)
+    (nat_le (commit_word words object) (min (slice_index words last_at + 1) (2 ^ 40 - 1)))
     ∷ check (ready_at object) (nat_le (ready_count words object) 32)
-    ∷ map (λ segment. check (segment_pointer_at words object segment) (is_segment_pointer words object segment)) (below (ready_count words object))
-    ++ check (pointer_after words object) (is_null_or_pointer_to words 256 (slice_index words (pointer_after words object))) ∷ []
+    ∷ map (λ segment. check (segment_pointer_at words object segment) (is_segment_pointer words object segment))
+    (below (ready_count words object))
+    ++ check (pointer_after words object)
+    (is_null_or_pointer_to words 256 (slice_index words (pointer_after words object))) ∷ []
 
 -- 14: each transaction object
 unfoldable pub objects_rule : Rule
@@ -217,7 +227,8 @@ entry_checks words before (at ∷ places) =
 
 -- 15: the entries of open objects
 unfoldable pub entries_rule : Rule
-entries_rule words = flat_map (λ object. entry_checks words 1 (entry_places words object)) (filter (is_open words) (below 16))
+entries_rule words =
+    flat_map (λ object. entry_checks words 1 (entry_places words object)) (filter (is_open words) (below 16))
 
 abbrev pub entry_rules : List Numbered
 entry_rules =

@@ -12,7 +12,8 @@ AreApart block other = (block.first + block.words ≤ other.first) ⊎ (other.fi
 -- two live blocks are one, or they share no word
 abbrev pub LiveBlocksAreApart : Type 0
 LiveBlocksAreApart = (words : List ℕ) → Keeps words reserved_rule → Keeps words descriptor_rule
-    → (block other : Block) → Contains (live_blocks words) block → Contains (live_blocks words) other → (block ≡ other) ⊎ AreApart block other
+    → (block other : Block) → Contains (live_blocks words) block → Contains (live_blocks words) other
+    → (block ≡ other) ⊎ AreApart block other
 
 -- a word of the page is a word of the block
 abbrev pub HasWordOf : Block → ℕ → Type 0
@@ -20,6 +21,8 @@ HasWordOf block page = (block.first < page_at (page + 1)) × (page_at page < blo
 
 -- a page is free exactly where it isn't reserved, isn't a small page, and no live block has a word of it
 abbrev pub FreePagesAreUnused : Type 0
-FreePagesAreUnused = (words : List ℕ) → Keeps words reserved_rule → Keeps words descriptor_rule → (page : ℕ) → page < page_count words
+FreePagesAreUnused =
+    (words : List ℕ) → Keeps words reserved_rule → Keeps words descriptor_rule → (page : ℕ) → page < page_count words
     → IsTrue (is_free_page words page)
-    ↔ ((is_reserved page ≡ false) × (is_small_page words page ≡ false) × ((block : Block) → Contains (live_blocks words) block → HasWordOf block page → ⊥))
+    ↔ ((is_reserved page ≡ false) × (is_small_page words page ≡ false)
+    × ((block : Block) → Contains (live_blocks words) block → HasWordOf block page → ⊥))

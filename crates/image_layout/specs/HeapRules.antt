@@ -1,5 +1,5 @@
--- The rules of the heap's words and of the lanes, which every image keeps, also one that a power cut left. A rule may rely
--- on those before it.
+-- The rules of the heap's words and of the lanes, which every image keeps, also one that a power cut left. A rule may
+-- rely on those before it.
 use Rattle.std.specs.Prelude.{ℕ, ◌+◌, ◌-◌, ◌%◌, ◌^◌, Bool, not, ◌&&◌, ◌||◌, ◌==◌, nat_lt, nat_le, map, filter, List, slice_index}
 use Rattle.image_layout.specs.Fixed.{descriptor_at, lane_op_at, lane_dest_at, lane_block_at}
 use Rattle.image_layout.specs.Places.{below, page_at, page_count, is_pointer}
@@ -9,12 +9,14 @@ use Rattle.image_layout.specs.Checks.{check, Rule}
 -- 5: reserved pages have the descriptor 8
 unfoldable pub reserved_rule : Rule
 reserved_rule words =
-    map (λ page. check (descriptor_at page) (descriptor_of words page == 8)) (filter is_reserved (below (page_count words)))
+    map (λ page. check (descriptor_at page) (descriptor_of words page == 8))
+    (filter is_reserved (below (page_count words)))
 
 -- A descriptor of another page, not inside a big block, is that of a free page, of a small page, or of a big block that
 -- ends in its segment.
 abbrev pub is_descriptor : ℕ → ℕ → Bool
-is_descriptor page descriptor = nat_le descriptor 7 || (says_big descriptor && nat_le (page % 64 + (descriptor - 16)) 64)
+is_descriptor page descriptor =
+    nat_le descriptor 7 || (says_big descriptor && nat_le (page % 64 + (descriptor - 16)) 64)
 
 -- 6: other descriptors, passing over the inside of big blocks, are descriptors
 unfoldable pub descriptor_rule : Rule
@@ -32,7 +34,8 @@ bitmap_rule words =
 abbrev pub is_lane : List ℕ → ℕ → Bool
 is_lane words lane =
     (slice_index words (lane_op_at lane) == 0)
-    || (nat_le (slice_index words (lane_op_at lane)) 2 && is_pointer words (slice_index words (lane_dest_at lane)) && is_block_pointer words (slice_index words (lane_block_at lane)))
+    || (nat_le (slice_index words (lane_op_at lane)) 2 && is_pointer words (slice_index words (lane_dest_at lane))
+    && is_block_pointer words (slice_index words (lane_block_at lane)))
 
 -- 8: each lane is idle or at work on a block
 unfoldable pub lane_rule : Rule

@@ -37,10 +37,12 @@ pointer_after words object = segment_pointer_at words object (ready_count words 
 abbrev pub ready_segments : List ℕ → ℕ → List ℕ
 ready_segments words object = map (segment_of words object) (below (ready_count words object))
 
--- the places of the entry words, in the order in which they are filled: 60 of the object, then 255 of each ready segment
+-- the places of the entry words, in the order in which they are filled: 60 of the object, then 255 of each ready
+-- segment
 unfoldable pub entry_places : List ℕ → ℕ → List ℕ
 entry_places words object =
-    map (entry_at object) (below 60) ++ flat_map (λ segment. map (segment_entry_at segment) (below 255)) (ready_segments words object)
+    map (entry_at object) (below 60)
+    ++ flat_map (λ segment. map (segment_entry_at segment) (below 255)) (ready_segments words object)
 
 -- the entries: the entry words that aren't 0, in order
 abbrev pub entries : List ℕ → ℕ → List ℕ

@@ -34,12 +34,14 @@ chunk_owner header chunk = owner_of (chunk_pointer_at header chunk) (chunk_words
 
 -- the published chunk pointers of an array, and the one after them, where they name a block
 abbrev pub array_owners : List ℕ → ℕ → List Owner
-array_owners words header = filter (names_one words) (map (chunk_owner header) (below (min (chunk_count words header + 1) 12)))
+array_owners words header =
+    filter (names_one words) (map (chunk_owner header) (below (min (chunk_count words header + 1) 12)))
 
--- the places of the pointers along the leaf list, by the stored next words: that of the first leaf, and each leaf's next
--- word that names one
+-- the places of the pointers along the leaf list, by the stored next words: that of the first leaf, and each leaf's
+-- next word that names one
 abbrev pub link_places : List ℕ → ℕ → List ℕ
-link_places words column = take (length (stored_leaves words column)) (first_leaf_at column ∷ map next_leaf_at (stored_leaves words column))
+link_places words column =
+    take (length (stored_leaves words column)) (first_leaf_at column ∷ map next_leaf_at (stored_leaves words column))
 
 abbrev pub leaf_owner : ℕ → Owner
 leaf_owner at = owner_of at 104
@@ -49,12 +51,14 @@ abbrev pub text_block_words : ℕ → ℕ
 text_block_words bytes = (if nat_le bytes 2000 then block_words (text_words bytes) else 0)
 
 abbrev pub text_owner : List ℕ → ℕ → Owner
-text_owner words at = record { at = at; block_words = text_block_words (text_length words (place_in (slice_index words at))) }
+text_owner words at =
+    record { at = at; block_words = text_block_words (text_length words (place_in (slice_index words at))) }
 
 -- the published slots of a column's dictionary below its length
 abbrev pub dictionary_slots : List ℕ → ℕ → List ℕ
 dictionary_slots words column =
-    array_places words (dictionary_header column) (min (dictionary_length words column) (capacity words (dictionary_header column)))
+    array_places words (dictionary_header column)
+    (min (dictionary_length words column) (capacity words (dictionary_header column)))
 
 abbrev pub text_owners : List ℕ → ℕ → List Owner
 text_owners words column = (if is_text words column then map (text_owner words) (dictionary_slots words column) else [])
@@ -91,15 +95,18 @@ segment_owner words object segment = owner_of (segment_pointer_at words object s
 
 -- the pointers to an object's ready segments, and the one after them, where they name a block
 abbrev pub object_owners : List ℕ → ℕ → List Owner
-object_owners words object = filter (names_one words) (map (segment_owner words object) (below (ready_count words object + 1)))
+object_owners words object =
+    filter (names_one words) (map (segment_owner words object) (below (ready_count words object + 1)))
 
 -- all owner words, in the order of the walk: table by table, then object by object
 unfoldable pub owner_words : List ℕ → List Owner
-owner_words words = flat_map (table_owners words) (below (table_count words)) ++ flat_map (object_owners words) (below 16)
+owner_words words =
+    flat_map (table_owners words) (below (table_count words)) ++ flat_map (object_owners words) (below 16)
 
 -- the word is the pointer of a live block of the kind and size that its owner needs
 abbrev pub owns_block : List ℕ → Owner → Bool
-owns_block words owner = is_pointer words (word_of words owner) && is_live words (named_block words owner) owner.block_words
+owns_block words owner =
+    is_pointer words (word_of words owner) && is_live words (named_block words owner) owner.block_words
 
 -- the key words of a column
 abbrev pub key_words : List ℕ → ℕ → List ℕ
@@ -108,8 +115,12 @@ key_words words column = map (λ pair. pair.key) (used_pairs words column)
 -- The live blocks are exactly the named ones, each once, and each used key word of a tree of texts is the word of a
 -- dictionary slot that owns the text's block.
 pub record EachBlockHasOneOwner (words : List ℕ) : Type 0 where
-  pub blocks : IsPermutation (map (λ block. block.first) (live_blocks words)) (map (named_block words) (owner_words words))
-  pub keys : All (λ column. IsTrue (is_text words column) → All (Contains (map (slice_index words) (dictionary_slots words column))) (key_words words column)) (all_columns words)
+  pub blocks : IsPermutation (map (λ block. block.first) (live_blocks words))
+      (map (named_block words) (owner_words words))
+  pub keys : All
+      (λ column. IsTrue (is_text words column)
+      → All (Contains (map (slice_index words) (dictionary_slots words column))) (key_words words column))
+      (all_columns words)
 
 -- While a power cut may have left work half done there are more owner words: the leaf that each column is adding,
 abbrev pub new_leaf_owners : List ℕ → List Owner
@@ -143,7 +154,8 @@ abbrev pub is_replaced_in : List ℕ → ℕ → ℕ → ℕ → Bool
 is_replaced_in words at other column =
     (other == new_leaf_at column)
     && ((at == first_leaf_at column)
-    || (not (slice_index words (split_leaf_at column) == 0) && (at == next_leaf_at (place_in (slice_index words (split_leaf_at column))))))
+    || (not (slice_index words (split_leaf_at column) == 0)
+    && (at == next_leaf_at (place_in (slice_index words (split_leaf_at column))))))
 
 abbrev pub is_replaced : List ℕ → ℕ → ℕ → Bool
 is_replaced words at other = list_any (is_replaced_in words at other) (all_columns words)
@@ -151,7 +163,8 @@ is_replaced words at other = list_any (is_replaced_in words at other) (all_colum
 -- two owner words name two blocks; live blocks share no word, so blocks that begin at two places don't either
 abbrev pub NameApart : List ℕ → ℕ → ℕ → Type 0
 NameApart words at other =
-    slice_index words at ≢ 0 → slice_index words other ≢ 0 → (is_replaced words at other ≡ false) → place_in (slice_index words at) ≢ place_in (slice_index words other)
+    slice_index words at ≢ 0 → slice_index words other ≢ 0 → (is_replaced words at other ≡ false)
+    → place_in (slice_index words at) ≢ place_in (slice_index words other)
 
 -- the lanes at work
 abbrev pub busy_lanes : List ℕ → List ℕ
@@ -166,7 +179,8 @@ lane_block words lane = slice_index words (lane_block_at lane)
 
 -- the chunk pointer after the published ones
 abbrev pub next_chunk_pointers : List ℕ → ℕ → List ℕ
-next_chunk_pointers words header = (if nat_lt (chunk_count words header) 12 then chunk_pointer_at header (chunk_count words header) ∷ [] else [])
+next_chunk_pointers words header =
+    (if nat_lt (chunk_count words header) 12 then chunk_pointer_at header (chunk_count words header) ∷ [] else [])
 
 -- the extension pointer after a table's published columns
 abbrev pub next_extension_pointers : List ℕ → ℕ → List ℕ
@@ -176,7 +190,8 @@ next_extension_pointers words block = (if is_first_version words then [] else la
 abbrev pub lane_targets : List ℕ → List ℕ
 lane_targets words =
     unfinished_slots words
-    ++ flat_map (λ table. flat_map (next_chunk_pointers words) (array_headers words (table_block words table))) (below (table_count words))
+    ++ flat_map (λ table. flat_map (next_chunk_pointers words) (array_headers words (table_block words table)))
+    (below (table_count words))
     ++ map new_leaf_at (all_columns words)
     ++ map (pointer_after words) (below 16)
     ++ flat_map (λ table. next_extension_pointers words (table_block words table)) (below (table_count words))
@@ -186,7 +201,10 @@ pub record OwnersAreApart (words : List ℕ) : Type 0 where
   -- an owner word that names a block names a live one, of the size that its owner needs
   pub firm : All (λ owner. IsTrue (names_one words owner) → IsTrue (owns_block words owner)) (firm_owners words)
   -- the slot of a table that is being created is 0, or the pointer of a live block
-  pub unfinished : All (λ at. slice_index words at ≢ 0 → IsTrue (is_pointer words (slice_index words at)) × Contains (map (λ block. block.first) (live_blocks words)) (place_in (slice_index words at))) (unfinished_slots words)
+  pub unfinished : All
+      (λ at. slice_index words at ≢ 0 → IsTrue (is_pointer words (slice_index words at))
+      × Contains (map (λ block. block.first) (live_blocks words)) (place_in (slice_index words at)))
+      (unfinished_slots words)
   -- no two owner words name one block
   pub apart : AllPairs (NameApart words) (owner_places words)
   -- each lane that is at work allocates into, or frees from, an owner word that may be half done
@@ -194,4 +212,7 @@ pub record OwnersAreApart (words : List ℕ) : Type 0 where
   -- no two of these lanes have one owner word
   pub lanes : AllPairs (λ lane other. lane_owner words lane ≢ lane_owner words other) (busy_lanes words)
   -- and no other owner word has the pointer of a lane's block
-  pub alone : All (λ lane. All (λ at. (at ≡ lane_owner words lane) ⊎ (slice_index words at ≢ lane_block words lane)) (owner_places words)) (busy_lanes words)
+  pub alone : All
+      (λ lane. All
+      (λ at. (at ≡ lane_owner words lane) ⊎ (slice_index words at ≢ lane_block words lane)) (owner_places words))
+      (busy_lanes words)

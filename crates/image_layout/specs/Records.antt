@@ -1,4 +1,5 @@
--- Where the words of a record stand. A record is named by the place where it begins, and a field by the place of its word.
+-- Where the words of a record stand. A record is named by the place where it begins, and a field by the place of its
+-- word.
 use Rattle.std.specs.Prelude.{ℕ, ◌+◌, ◌*◌, ◌/◌}
 
 -- Words of a table block: the number of all columns, a bound on its stamped rows, its name of three words, the pointer

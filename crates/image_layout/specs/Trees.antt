@@ -18,9 +18,11 @@ leaves_from words (suc steps) (suc word) =
 -- these are all leaves that are reached from a pointer word by next words
 abbrev pub AreLeavesFrom : List ℕ → ℕ → List ℕ → Type 0
 AreLeavesFrom words word [] = word ≡ 0
-AreLeavesFrom words word (leaf ∷ leaves) = (word ≡ pointer_word leaf) × AreLeavesFrom words (slice_index words (next_leaf_at leaf)) leaves
+AreLeavesFrom words word (leaf ∷ leaves) =
+    (word ≡ pointer_word leaf) × AreLeavesFrom words (slice_index words (next_leaf_at leaf)) leaves
 
--- The leaves of a column along the stored next words. A list without a leaf twice has no more leaves than there are words.
+-- The leaves of a column along the stored next words. A list without a leaf twice has no more leaves than there are
+-- words.
 abbrev pub stored_leaves : List ℕ → ℕ → List ℕ
 stored_leaves words column = leaves_from words (length words) (slice_index words (first_leaf_at column))
 
@@ -31,7 +33,8 @@ is_full_leaf words leaf = slice_index words leaf == 2 ^ 48 - 1
 -- a leaf with another directly behind it
 abbrev pub put_behind : ℕ → ℕ → List ℕ → List ℕ
 put_behind leaf other [] = []
-put_behind leaf other (first ∷ leaves) = (if first == leaf then first ∷ other ∷ leaves else first ∷ put_behind leaf other leaves)
+put_behind leaf other (first ∷ leaves) =
+    (if first == leaf then first ∷ other ∷ leaves else first ∷ put_behind leaf other leaves)
 
 -- A split has cut its leaf and not linked the new one: both words of the split log are there, the leaf isn't full, and
 -- its next word isn't the new leaf.
@@ -39,14 +42,16 @@ abbrev pub is_about_to_link : List ℕ → ℕ → Bool
 is_about_to_link words column =
     let leaf = slice_index words (split_leaf_at column) in
     let new = slice_index words (new_leaf_at column) in
-    not (leaf == 0) && not (new == 0) && not (is_full_leaf words (place_in leaf)) && not (slice_index words (next_leaf_at (place_in leaf)) == new)
+    not (leaf == 0) && not (new == 0) && not (is_full_leaf words (place_in leaf))
+    && not (slice_index words (next_leaf_at (place_in leaf)) == new)
 
 -- the leaves of a column in the order of their keys: those along the next words, and behind a leaf that was split
 -- the new one, where it isn't linked yet
 unfoldable pub leaf_list : List ℕ → ℕ → List ℕ
 leaf_list words column =
     (if is_about_to_link words column
-    then put_behind (place_in (slice_index words (split_leaf_at column))) (place_in (slice_index words (new_leaf_at column))) (stored_leaves words column)
+    then put_behind (place_in (slice_index words (split_leaf_at column)))
+    (place_in (slice_index words (new_leaf_at column))) (stored_leaves words column)
     else stored_leaves words column)
 
 -- a key word and its code
@@ -59,7 +64,8 @@ abbrev pub leaf_slots : List ℕ → ℕ → List ℕ
 leaf_slots words leaf = filter (λ slot. bit_at (slice_index words leaf) slot == 1) (below 48)
 
 abbrev pub pair_at : List ℕ → ℕ → ℕ → Pair
-pair_at words leaf slot = record { key = slice_index words (key_at leaf slot); code = slice_index words (code_at leaf slot) }
+pair_at words leaf slot =
+    record { key = slice_index words (key_at leaf slot); code = slice_index words (code_at leaf slot) }
 
 -- the pairs of a leaf in the order of its slots
 unfoldable pub leaf_pairs : List ℕ → ℕ → List Pair
@@ -103,7 +109,8 @@ keys_differ words texts key other = key_below words texts key other || key_below
 -- one more item among sorted ones, before those that it isn't above
 abbrev pub put_by : {X : Type 0} → (X → X → Bool) → X → List X → List X
 put_by is_below item [] = item ∷ []
-put_by is_below item (first ∷ items) = (if is_below first item then first ∷ put_by is_below item items else item ∷ first ∷ items)
+put_by is_below item (first ∷ items) =
+    (if is_below first item then first ∷ put_by is_below item items else item ∷ first ∷ items)
 
 -- the items in order; of two that are equal the first stays first
 abbrev pub sorted_by : {X : Type 0} → (X → X → Bool) → List X → List X
@@ -148,5 +155,7 @@ indexed_pair words column code = record { key = dictionary_word words column cod
 
 -- the pairs of a column are exactly its dictionary's values with their codes, sorted by key, and no value stands twice
 pub record IsIndexed (words : List ℕ) (column : ℕ) : Type 0 where
-  pub same : pairs words column ≡ sorted_pairs words column (map (indexed_pair words column) (below (dictionary_length words column)))
-  pub distinct : AllPairs (λ key other. IsTrue (keys_differ words (is_text words column) key other)) (dictionary_words words column)
+  pub same : pairs words column
+      ≡ sorted_pairs words column (map (indexed_pair words column) (below (dictionary_length words column)))
+  pub distinct : AllPairs (λ key other. IsTrue (keys_differ words (is_text words column) key other))
+      (dictionary_words words column)

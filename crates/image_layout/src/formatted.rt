@@ -38,7 +38,8 @@ fn format_words(words: &mut [u64], segments: u32)
 fn reserve_first_pages(words: &mut [u64], segments: u32)
     requires segments { segments ≤ 128 }
     requires words { 32768 * segments ≤ length words.old }
-    ensures { (w : ℕ) → slice_index words.new w ≡ (if w % 32768 == 0 && nat_lt w (32768 * segments) then 8 else slice_index words.old w) }
+    ensures { (w : ℕ) → slice_index words.new w
+        ≡ (if w % 32768 == 0 && nat_lt w (32768 * segments) then 8 else slice_index words.old w) }
 {
     for segment in 0..segments {
         words[(segment * SEGMENT_WORDS) as usize] = RESERVED;

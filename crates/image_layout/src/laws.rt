@@ -14,7 +14,8 @@ use crate::layout::{
 
 /// An image has no first fault exactly where it keeps each of the rules.
 pub fn fault_law()
-    ensures { (rules : List Numbered) (words : List ℕ) → (first_fault rules words ≡ None) ↔ All (λ rule. Keeps words rule.rule) rules }
+    ensures { (rules : List Numbered) (words : List ℕ)
+        → (first_fault rules words ≡ None) ↔ All (λ rule. Keeps words rule.rule) rules }
 {}
 
 /// The numbers of the layout, as the definitions have them.

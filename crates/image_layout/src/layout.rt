@@ -39,7 +39,8 @@ pub const OBJECT_WORDS: u32 = 64;
 /// Entries that stand in a transaction object itself: what its four other words leave.
 pub const OBJECT_ENTRIES: u8 = 60;
 
-/// Entries of a segment, which a transaction object gets when its own are used: what the pointer to the next one leaves.
+/// Entries of a segment, which a transaction object gets when its own are used: what the pointer to the next one
+/// leaves.
 pub const SEGMENT_ENTRIES: u8 = 255;
 
 /// Words of a block that holds a segment of entries.

@@ -28,8 +28,8 @@ pub record HoldsOnWords (c : Change) : Type 0 where
   -- others may change what it doesn't read: then it is asked as before, and its parts are the same
   pub stable : (old new : List ℕ) → c.reads old new → c.asks old → c.asks new × (c.parts new ≡ c.parts old)
 
--- A plan of the change is played, and these actions of it are left. The image is one that a power cut leaves now; the base
--- is the image with the plan taken back.
+-- A plan of the change is played, and these actions of it are left. The image is one that a power cut leaves now; the
+-- base is the image with the plan taken back.
 pub record IsCutShort (c : Change) (play : Play) (left : List Action) (d : Device) (image base : List ℕ) : Type 0 where
   -- how many of its actions were played
   pub played : ℕ
@@ -48,11 +48,13 @@ pub record IsCutShort (c : Change) (play : Play) (left : List Action) (d : Devic
 pub record Survives (c : Change) : Type 0 where
   pub on_words : HoldsOnWords c
   -- each image that a power cut leaves shows what a cut of the parts shows
-  pub image : (play : Play) (left : List Action) (d : Device) (image base : List ℕ) → IsCutShort c play left d image base → c.shows base image
+  pub image : (play : Play) (left : List Action) (d : Device) (image base : List ℕ)
+      → IsCutShort c play left d image base → c.shows base image
   -- after the last action each image shows what the words after all parts show
   pub rest : (play : Play) (d : Device) (image base : List ℕ) → IsCutShort c play [] d image base → c.ends base image
   -- and then the plan's own words are clean
-  pub clean : (play : Play) (d : Device) (image base : List ℕ) → IsCutShort c play [] d image base → (w : ℕ) → IsTrue (play.own w) → IsClean d w
+  pub clean : (play : Play) (d : Device) (image base : List ℕ) → IsCutShort c play [] d image base
+      → (w : ℕ) → IsTrue (play.own w) → IsClean d w
 
 -- the words at these places are the same
 abbrev pub AreSameAt : (ℕ → Bool) → List ℕ → List ℕ → Type 0

@@ -22,7 +22,8 @@ is_there words (Punch page) = false
 abbrev pub needed_stores : List ℕ → Part → Part
 needed_stores words [] = []
 needed_stores words (action ∷ part) =
-    if is_stored_later part action || is_there words action then needed_stores words part else action ∷ needed_stores words part
+    if is_stored_later part action || is_there words action then needed_stores words part
+    else action ∷ needed_stores words part
 
 -- the same of each part, by the words as the parts before it leave them; a part without stores is left out
 abbrev pub needed_parts : List ℕ → List Part → List Part

@@ -4,4 +4,5 @@ use Rattle.pm_model.specs.Device.{Device}
 use Rattle.pm_model.specs.Masks.{flushed_of}
 
 abbrev pub device_of : Plain → Device
-device_of memory = record { cached = memory.cached.items; durable = memory.durable.items; flushed = flushed_of memory.masks.items }
+device_of memory =
+    record { cached = memory.cached.items; durable = memory.durable.items; flushed = flushed_of memory.masks.items }
