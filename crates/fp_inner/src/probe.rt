@@ -26,7 +26,8 @@ fn text_place<M: Memory>(mem: &M, key: u64) -> Place
     requires { IsTrue (is_text_pointer (M.device mem.now).cached key) }
     ensures place { result.0 ≡ place_in key }
     ensures short { text_length (M.device mem.now).cached result.0 ≤ 2000 }
-    ensures within { result.0 + text_words (text_length (M.device mem.now).cached result.0) ≤ length (M.device mem.now).cached }
+    ensures within { result.0 + text_words (text_length (M.device mem.now).cached result.0)
+        ≤ length (M.device mem.now).cached }
 {
     let pointer = PPtr::try_read(key, mem.len()).unwrap();
     pointer.place().unwrap()

@@ -23,7 +23,9 @@ fn allocate<M: Memory>(
     requires first { 512 ≤ dest.0 }
     requires last { dest.0 < 576 }
     ensures settled { IsSettled (M.device memory.new) heap.new }
-    ensures owned { IfOk result (λ made. words ≤ 256 → OwnsBlock (M.device memory.new).cached dest.0 (record { first = made.0.first.0; words = made.0.words })) }
+    ensures owned { IfOk result
+        (λ made. words ≤ 256 →
+        OwnsBlock (M.device memory.new).cached dest.0 (record { first = made.0.first.0; words = made.0.words })) }
 {
     assert_eq!(rt; memory.load(Place(576)), 0);
     assert_eq!(rt; memory.load(dest), 0);

@@ -20,7 +20,8 @@ fn packed_byte<M: Memory>(mem: &M, first: Place, byte: u32) -> u8
 /// The order of the text at a place against these bytes. It takes no memory.
 pub fn compare_text<M: Memory>(mem: &M, at: Place, bytes: &[u8]) -> Ordering
     requires short { text_length (M.device mem.now).cached at.0 ≤ 2000 }
-    requires within { at.0 + text_words (text_length (M.device mem.now).cached at.0) ≤ length (M.device mem.now).cached }
+    requires within { at.0 + text_words (text_length (M.device mem.now).cached at.0)
+        ≤ length (M.device mem.now).cached }
     ensures less { is_lt result ≡ text_below (text_at (M.device mem.now).cached at.0) bytes.now }
     ensures greater { is_gt result ≡ text_below bytes.now (text_at (M.device mem.now).cached at.0) }
 {

@@ -14,7 +14,8 @@ use Rattle.pmem_recover.specs.Steps.{step_parts}
 
 -- a table's block says how many columns stand in it: all that the table has
 abbrev pub count_change : List ℕ → ℕ → WordChange
-count_change words table = change (inner_columns_at (table_block words table)) (column_count words (table_block words table))
+count_change words table =
+    change (inner_columns_at (table_block words table)) (column_count words (table_block words table))
 
 -- the words that the step changes, in order
 abbrev pub version_changes : List ℕ → List WordChange
@@ -25,13 +26,14 @@ pub record IsBesideStep (base : List ℕ) (w : ℕ) : Type 0 where
   pub no_version : w ≢ version_at
   pub no_count : (table : ℕ) → table < table_count base → w ≢ inner_columns_at (table_block base table)
 
--- What a cut of it shows: the tables and the columns of each stand where they stood, all words beside the step are as they
--- were, and mended again it comes to the same words.
+-- What a cut of it shows: the tables and the columns of each stand where they stood, all words beside the step are as
+-- they were, and mended again it comes to the same words.
 pub record ShowsVersionStep (base image : List ℕ) : Type 0 where
   pub size : length image ≡ length base
   pub beside : (w : ℕ) → IsBesideStep base w → slice_index image w ≡ slice_index base w
   pub tables : table_blocks image ≡ table_blocks base
-  pub columns : (table : ℕ) → table < table_count base → columns_of image (table_block base table) ≡ columns_of base (table_block base table)
+  pub columns : (table : ℕ) → table < table_count base
+      → columns_of image (table_block base table) ≡ columns_of base (table_block base table)
   pub again : after_mending version_mending image ≡ after_mending version_mending base
 
 -- what the words after it show: the same, and they are of version 2

@@ -13,11 +13,11 @@ use crate::part::push_part;
 use pm_model::{Memory, NoMemory, OBJECTS, Place, Plan, commit_word};
 use std::alloc::Global;
 
-/// The first object from `from` on with an entry or a commit word that isn't 0, with the plan that clears them: one part
-/// with 0 over each. `None` where no such object is left, so from 16 on always.
+/// The first object from `from` on with an entry or a commit word that isn't 0, with the plan that clears them: one
+/// part with 0 over each. `None` where no such object is left, so from 16 on always.
 ///
-/// An object has at most 8,220 entry words. Where its segments share words, each word is stored once, in the order of its
-/// last place among them.
+/// An object has at most 8,220 entry words. Where its segments share words, each word is stored once, in the order of
+/// its last place among them.
 pub fn next_clear<M: Memory>(
     alloc: Global,
     mem: &M,

@@ -19,9 +19,9 @@ use pm_model::{
 };
 use std::alloc::Global;
 
-/// The first lane from `from` on that a power cut left at work, with the plan that mends it: an allocation is done where
-/// the owner's word holds the block's pointer, and else undone, and a freeing is done. `None` where no such lane is left,
-/// so from 16 on always.
+/// The first lane from `from` on that a power cut left at work, with the plan that mends it: an allocation is done
+/// where the owner's word holds the block's pointer, and else undone, and a freeing is done. `None` where no such lane
+/// is left, so from 16 on always.
 ///
 /// A plan has at most three parts of one store each. A store that would leave its word as it is isn't made.
 pub fn next_lane<M: Memory>(

@@ -11,9 +11,9 @@ ghost use Rattle.pmem_recover.specs.EntryRules.{entry_rules};
 ghost use Rattle.pmem_recover.specs.LaneStep.{IsApartImage, lane_step};
 ghost use Rattle.pmem_recover.specs.VersionStep.{version_step};
 
-/// A law for proofs: opening's step of a lane leaves it mended and idle, and a cut of the step is mended to the same words.
-/// Each lane may be mended, whatever a power cut left half done: where the image keeps the rules that every image keeps, and
-/// its owner words are apart.
+/// A law for proofs: opening's step of a lane leaves it mended and idle, and a cut of the step is mended to the same
+/// words. Each lane may be mended, whatever a power cut left half done: where the image keeps the rules that every
+/// image keeps, and its owner words are apart.
 pub fn lane_opening_law()
     ensures may { (words : List ℕ) (lane : ℕ) → IsApartImage words → lane < LANES → MayMend words lane }
     ensures survives { (lane : ℕ) → Survives (lane_step lane) }
@@ -29,9 +29,10 @@ pub fn fault_law()
     ensures lanes { (words : List ℕ) → first_fault entry_rules words ≡ None → KeepsLaneRules words }
 {}
 
-/// A law for proofs: opening's step from version 1 to version 2, where the image keeps the rules that every image keeps, and
-/// its owner words are apart. Each cut of it has the same tables, with the same columns, and all words but those of the step
-/// as they were; mended again it comes to the same words, which are of version 2. In version 2 it has no part.
+/// A law for proofs: opening's step from version 1 to version 2, where the image keeps the rules that every image
+/// keeps, and its owner words are apart. Each cut of it has the same tables, with the same columns, and all words but
+/// those of the step as they were; mended again it comes to the same words, which are of version 2. In version 2 it has
+/// no part.
 pub fn version_law()
     ensures { Survives version_step }
 {}

@@ -56,8 +56,8 @@ fn open_commit<M: Memory>(mem: &M, object: u8) -> u64
     }
 }
 
-/// The first object from `from` on that is open and has its commit word, with the plan that closes it: its state becomes
-/// 0. `None` where no such object is left, so from 16 on always.
+/// The first object from `from` on that is open and has its commit word, with the plan that closes it: its state
+/// becomes 0. `None` where no such object is left, so from 16 on always.
 pub fn next_idle<M: Memory>(
     alloc: Global,
     mem: &M,

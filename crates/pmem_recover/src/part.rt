@@ -35,8 +35,8 @@ pub(crate) fn push_part<M: Memory>(
     Ok(())
 }
 
-/// Adds a part with those of the first changes that are needed, and then a part for each other change that is needed once
-/// those before it were made.
+/// Adds a part with those of the first changes that are needed, and then a part for each other change that is needed
+/// once those before it were made.
 pub(crate) fn push_parts<M: Memory>(
     alloc: Global,
     plan: &mut Plan,

@@ -24,8 +24,8 @@ const LANE: u8 = 0;
 // A freeing has at most 7 stores, a flush for each and 6 fences.
 const FREEING_ACTIONS: u32 = 22;
 
-/// The plan by which the block is freed that the table slot at the table count names: a table that was being created. It
-/// has the number 0; `None` where no slot is left or the slot is null, and from 1 on always.
+/// The plan by which the block is freed that the table slot at the table count names: a table that was being created.
+/// It has the number 0; `None` where no slot is left or the slot is null, and from 1 on always.
 pub fn next_slot<M: Memory>(
     alloc: Global,
     mem: &M,

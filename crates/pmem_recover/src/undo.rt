@@ -25,9 +25,9 @@ use std::alloc::Global;
 use txn_object::{Entry, EntryKind};
 
 /// The first object from `from` on that is open and has no commit word, with the plan that takes its transaction back:
-/// one part in which each row that it created and no commit did gets the stamp of a dead row, each row that it ended and
-/// no commit did gets the stamp 0, and each table's bound rises above the rows that it created; then its state 0. `None`
-/// where no such object is left, so from 16 on always.
+/// one part in which each row that it created and no commit did gets the stamp of a dead row, each row that it ended
+/// and no commit did gets the stamp 0, and each table's bound rises above the rows that it created; then its state 0.
+/// `None` where no such object is left, so from 16 on always.
 pub fn next_undo<M: Memory>(
     alloc: Global,
     mem: &M,

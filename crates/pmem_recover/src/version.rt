@@ -18,11 +18,12 @@ use pm_model::{
 };
 use std::alloc::Global;
 
-/// The plan by which an image of version 1 becomes one of version 2: the block of each table says how many columns stand in
-/// it, which are all, and then the version is 2. It has the number 0; `None` where the version isn't 1, and from 1 on always.
+/// The plan by which an image of version 1 becomes one of version 2: the block of each table says how many columns
+/// stand in it, which are all, and then the version is 2. It has the number 0; `None` where the version isn't 1, and
+/// from 1 on always.
 ///
-/// A plan has a part of one store for each table and one for the version. A store that would leave its word as it is isn't
-/// made.
+/// A plan has a part of one store for each table and one for the version. A store that would leave its word as it is
+/// isn't made.
 pub fn next_version<M: Memory>(
     alloc: Global,
     mem: &M,
@@ -59,7 +60,8 @@ fn plan_version<M: Memory>(alloc: Global, mem: &M) -> Result<Plan, NoMemory>
     Ok(plan)
 }
 
-// The words that it changes, in order. The version comes last: until then a cut of the step is mended to the same words.
+// The words that it changes, in order. The version comes last: until then a cut of the step is mended to the same
+// words.
 fn version_changes_of<M: Memory>(alloc: Global, mem: &M) -> Result<Vec<WordChange>, NoMemory>
     requires tables { Keeps (M.device mem.now).cached table_count_rule }
     requires slots { Keeps (M.device mem.now).cached table_slot_rule }

@@ -47,8 +47,8 @@ pub record MayPlanGrowth (words : List ℕ) (index : HeapIndex) (lane header : �
   pub header_is : IsHeader words header
   pub owned : chunk_count words header < 12 → ¬ HasNoNext words header → OwnsNext words header
 
--- The header is that of an array of a published table, in an image that keeps the rules which every image keeps, and whose
--- owner words are apart. The lane is idle.
+-- The header is that of an array of a published table, in an image that keeps the rules which every image keeps, and
+-- whose owner words are apart. The lane is idle.
 pub record IsTableArray (words : List ℕ) (lane table header : ℕ) : Type 0 where
   pub rules : KeepsEntryRules words
   pub owners : OwnersAreApart words
@@ -57,8 +57,8 @@ pub record IsTableArray (words : List ℕ) (lane table header : ℕ) : Type 0 wh
   pub lane_is : lane < LANES
   pub idle : slice_index words (lane_op_at lane) ≡ 0
 
--- A growth is planned. Where the array didn't own the chunk, it is of the best fit; where it did, the index stays. Once the
--- plan was played, the index stands for the words.
+-- A growth is planned. Where the array didn't own the chunk, it is of the best fit; where it did, the index stays. Once
+-- the plan was played, the index stands for the words.
 pub record IsGrowthPlanned (words : List ℕ) (old new : HeapIndex) (lane header : ℕ) (plan : List Action) : Type 0 where
   pub first : ℕ
   pub may : MayGrow words (growth_by lane header first)
@@ -89,8 +89,8 @@ IsRefused words header error =
     (error ≡ NoMemory) ⊎ ((error ≡ ArrayFull) × (chunk_count words header ≡ 12))
     ⊎ HasNoRun words header (next_pages words header) error
 
--- The chunk is planned: its first page is this, its allocation, if it needs one, follows the actions, and the index stands
--- for the words behind it.
+-- The chunk is planned: its first page is this, its allocation, if it needs one, follows the actions, and the index
+-- stands for the words behind it.
 pub record IsChunkPlanned (words : List ℕ) (old new : HeapIndex) (lane header first : ℕ)
     (before after : List Action) : Type 0 where
   pub may : MayGrow words (growth_by lane header first)

@@ -14,8 +14,8 @@ use Rattle.seg_array.specs.Shown.{IsUngrown, IsGrown}
 abbrev pub ShowsGrowth : Growth → List ℕ → List ℕ → Type 0
 ShowsGrowth g base image = IsUngrown base g (mended_lane g.lane image) ⊎ IsGrown base g (mended_lane g.lane image)
 
--- What the words after a growth show: the capacity after it, and new words of 0. It allocates the chunk, unless the array
--- owned it. Mending the lane leaves them, and the rules of the heap and of the array hold as before.
+-- What the words after a growth show: the capacity after it, and new words of 0. It allocates the chunk, unless the
+-- array owned it. Mending the lane leaves them, and the rules of the heap and of the array hold as before.
 pub record EndsGrowth (g : Growth) (base words : List ℕ) : Type 0 where
   pub grown : IsGrown base g words
   pub allocates : HasNoNext base g.header

@@ -1,5 +1,5 @@
--- The growth of an array: the chunk behind the published ones is allocated, unless the array owns it already; its pages are
--- made 0; and it is published.
+-- The growth of an array: the chunk behind the published ones is allocated, unless the array owns it already; its pages
+-- are made 0; and it is published.
 use Rattle.std.specs.Prelude.{◌≡◌, ◌⊎◌, ℕ, ◌+◌, ◌*◌, ◌%◌, ◌<◌, ◌≤◌, ◌==◌, if◌then◌else◌, List, [], ◌∷◌, ◌++◌, Contains, map, length, slice_index}
 use Rattle.std.specs.List.{range_with_len}
 use Rattle.pm_model.specs.declared.action.Action.TheVariants.{Punch}
@@ -83,8 +83,8 @@ pub record OwnsChunk (words : List ℕ) (chunk : Pages) : Type 0 where
   pub in_image : chunk.first + chunk.pages ≤ page_count words
   pub in_segment : chunk.first % 64 + chunk.pages ≤ 64
 
--- The growth may begin: the header's words can be an owner's, the chunk isn't among them, the lane is idle, and the chunk's
--- pages are free or the array's own.
+-- The growth may begin: the header's words can be an owner's, the chunk isn't among them, the lane is idle, and the
+-- chunk's pages are free or the array's own.
 pub record MayGrow (words : List ℕ) (g : Growth) : Type 0 where
   pub count : chunk_count words g.header < 12
   pub header_is : (k : ℕ) → k < 16 → IsOwnerPlace words (g.header + k)
@@ -94,8 +94,9 @@ pub record MayGrow (words : List ℕ) (g : Growth) : Type 0 where
   pub idle : slice_index words (lane_op_at g.lane) ≡ 0
   pub chunk : MayTakeRun words (next_chunk words g) ⊎ OwnsChunk words (next_chunk words g)
 
--- What a growth reads is the same: the count, the pointer behind the published ones, the lane's op, the descriptors of the
--- chunk's pages, whether the first of them stands inside a big block, and of the header's pages whether they are small.
+-- What a growth reads is the same: the count, the pointer behind the published ones, the lane's op, the descriptors of
+-- the chunk's pages, whether the first of them stands inside a big block, and of the header's pages whether they are
+-- small.
 pub record SameGrowthRead (old new : List ℕ) (g : Growth) : Type 0 where
   pub size : length new ≡ length old
   pub count : chunk_count new g.header ≡ chunk_count old g.header

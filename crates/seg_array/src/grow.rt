@@ -26,9 +26,9 @@ const PUBLISHING_ACTIONS: u32 = 4;
 
 /// Plans the growth of the array with this header by its next chunk, whose words are 0 then.
 ///
-/// The chunk is allocated through the lane, unless the array owns it already: a growth that was cut can leave it owned and
-/// not published. The plan may be played by any session, where the words that it writes are clean. After an error the heap
-/// is as it was.
+/// The chunk is allocated through the lane, unless the array owns it already: a growth that was cut can leave it owned
+/// and not published. The plan may be played by any session, where the words that it writes are clean. After an error
+/// the heap is as it was.
 pub fn plan_grow<M: Memory>(
     alloc: Global,
     mem: &M,

@@ -17,8 +17,8 @@ pub fn limits_law()
     ensures most { capacity_of 12 ≡ 130560 }
 {}
 
-/// What is read of an array: where the count and the pointers of its header are the same, its rule holds, and no word of
-/// it moved.
+/// What is read of an array: where the count and the pointers of its header are the same, its rule holds, and no word
+/// of it moved.
 pub fn array_law()
     ensures rule { (old new : List ℕ) (header : ℕ) →
         HasSameHeader old new header → Keeps old (array_rule header) → Keeps new (array_rule header) }
@@ -26,15 +26,15 @@ pub fn array_law()
         (index : ℕ) → index < capacity old header → place_of new header index ≡ place_of old header index }
 {}
 
-/// The arrays of a published table may be planned to grow, whatever a power cut left half done: where the image keeps the
-/// rules that every image keeps, and its owner words are apart.
+/// The arrays of a published table may be planned to grow, whatever a power cut left half done: where the image keeps
+/// the rules that every image keeps, and its owner words are apart.
 pub fn table_array_law()
     ensures { (words : List ℕ) (index : HeapIndex) (lane table header : ℕ) →
         IsTableArray words lane table header → IsIndexOf words index → MayPlanGrowth words index lane header }
 {}
 
-/// A growth: the lane mended, each cut has the capacity before it, or the capacity after it and new words of 0. After its last
-/// action it is the capacity after, and the next growth may be planned.
+/// A growth: the lane mended, each cut has the capacity before it, or the capacity after it and new words of 0. After
+/// its last action it is the capacity after, and the next growth may be planned.
 pub fn growth_law()
     ensures survives { (g : Growth) → Survives (growth g) }
     ensures again { (base : List ℕ) (old new : HeapIndex) (lane header : ℕ) (plan : List Action) →

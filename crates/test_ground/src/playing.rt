@@ -9,8 +9,10 @@ use pm_model::{Memory, Plan, play};
 pub fn play_whole<M: Memory>(memory: &mut M, session: u8, plan: &mut Plan) -> u32
     requires session { session ≤ 16 }
     requires clean { (w : ℕ) → IsClean (M.device memory.old) w }
-    requires planned { (parts : List Part) × (plan.old.left ≡ plan_of parts) × IsPlan (length (M.device memory.old).cached) parts }
-    ensures words { (parts : List Part) → plan.old.left ≡ plan_of parts → IsPlan (length (M.device memory.old).cached) parts →
+    requires planned { (parts : List Part) × (plan.old.left ≡ plan_of parts)
+        × IsPlan (length (M.device memory.old).cached) parts }
+    ensures words { (parts : List Part) → plan.old.left ≡ plan_of parts
+        → IsPlan (length (M.device memory.old).cached) parts →
         (M.device memory.new).cached ≡ finished parts (M.device memory.old).cached }
     ensures clean { (w : ℕ) → IsClean (M.device memory.new) w }
     ensures played { plan.new.left ≡ [] }
