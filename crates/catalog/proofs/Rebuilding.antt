@@ -20,7 +20,7 @@ use Rattle.image_layout.specs.Records.{column_name_at, table_name_at}
 use Rattle.image_layout.specs.Tables.{table_count, table_block, table_blocks, columns_of, column_count, column_record, extension_count, extension_pointer_at, is_first_version}
 use Rattle.image_layout.specs.Checks.{Check, check}
 use Rattle.image_layout.specs.EntryRules.{is_letter, is_name_byte, is_padded_name_byte, column_name_checks, kind_check, name_checks, name_rule, since_checks}
-use Rattle.image_layout.specs.SoundRules.{IsSound, same_name, name_place_checks, table_name_checks, distinct_name_rule}
+use Rattle.image_layout.specs.SoundRules.{IsIntact, same_name, name_place_checks, table_name_checks, distinct_name_rule}
 use Rattle.image_layout.proofs.Heap.{Holds}
 use Rattle.image_layout.proofs.Members.{below-Contains, Contains-below, Contains-here, Contains-map, Contains-there, Contains-cons, Contains-nil, map-Contains}
 use Rattle.image_layout.proofs.OwnedBlocks.{keeps_one}
@@ -314,6 +314,6 @@ module _ (words : List ℕ) (fit : AreWords words) (whole : length words % 32768
             (columns_differ words fit [] columns column_padded distinct);
       }
 
--- a sound image keeps the rules
-pub sound_keeps : (words : List ℕ) → IsSound words → KeepsTableRules words
-sound_keeps words sound = record { table_count = sound.entry.table_count; table_slots = sound.entry.table_slots; names = sound.entry.names; distinct_names = sound.names }
+-- an intact image keeps the rules
+pub intact_keeps : (words : List ℕ) → IsIntact words → KeepsTableRules words
+intact_keeps words intact = record { table_count = intact.entry.table_count; table_slots = intact.entry.table_slots; names = intact.entry.names; distinct_names = intact.names }

@@ -1,4 +1,4 @@
--- In a sound image owner words are apart.
+-- In an intact image owner words are apart.
 use Rattle.std.proofs.Common.{◌≡◌, ◌≢◌, ◌⊎◌, ⊎_elim, ℕ, ◌-◌, true, not, ◌&&◌, eqb, ltb, List, [], ◌∷◌, ◌++◌, get_or, map, refl, sym, ◌∙◌, ap, subst, arith}
 use Rattle.std.specs.Prelude.{All, AllPairs, Contains}
 use Rattle.std.specs.List.{flat_map, range_with_len}
@@ -17,7 +17,7 @@ use Rattle.image_layout.specs.Checks.{check}
 use Rattle.image_layout.specs.Tables.{all_columns, is_text}
 use Rattle.image_layout.specs.Trees.{dictionary_length}
 use Rattle.image_layout.specs.EntryRules.{is_among, text_columns}
-use Rattle.image_layout.specs.SoundRules.{zero_check, idle_rule, split_log_rule, owner_rule, distinct_checks, single_owner_rule, spare_slots, spare_slot_rule, IsSound}
+use Rattle.image_layout.specs.SoundRules.{zero_check, idle_rule, split_log_rule, owner_rule, distinct_checks, single_owner_rule, spare_slots, spare_slot_rule, IsIntact}
 use Rattle.image_layout.specs.Owners.{Owner, word_of, named_block, names_one, owns_block, owner_words, leaf_owner, new_leaf_owners, next_table_slots, next_text_slots, unfinished_slots, firm_owners, owner_places, NameApart, busy_lanes, lane_owner, lane_block, lane_targets, OwnersAreApart}
 use Rattle.image_layout.proofs.Faults.{Holds}
 use Rattle.image_layout.proofs.Members.{Contains-here, Contains-there, Contains-cons, Contains-nil, Contains-flat_map, flat_map-Contains, Contains-map, map-Contains, Contains-filter, filter-Contains}
@@ -73,17 +73,17 @@ pairs_apart words before (at ∷ places) zeros holds pointers none =
         → place_in (get_or words at 0) ≡ place_in (get_or words other 0) → get_or words at 0 ≡ get_or words other 0
     one_place other first second same = first ∙ ap pointer_word same ∙ sym second
 
-module _ (words : List ℕ) (sound : IsSound words) where
+module _ (words : List ℕ) (intact : IsIntact words) where
   owns : (owner : Owner) → Contains (owner_words words) owner → owns_block words owner ≡ true
   unfolding owner_rule
-  owns owner is = All-contains Holds (owner_rule words) (check owner.at (owns_block words owner)) sound.owners.checks (map-Contains (λ (o : Owner). check o.at (owns_block words o)) (owner_words words) owner is)
+  owns owner is = All-contains Holds (owner_rule words) (check owner.at (owns_block words owner)) intact.owners.checks (map-Contains (λ (o : Owner). check o.at (owns_block words o)) (owner_words words) owner is)
 
   split_logs : List ℕ
   split_logs = flat_map (λ column. split_leaf_at column ∷ new_leaf_at column ∷ []) (all_columns words)
 
   logs_zero : (at : ℕ) → Contains (split_logs ++ next_table_slots words) at → get_or words at 0 ≡ 0
   unfolding split_log_rule split_logs
-  logs_zero at is = zero_at words (split_logs ++ next_table_slots words) at sound.split_logs.checks is
+  logs_zero at is = zero_at words (split_logs ++ next_table_slots words) at intact.split_logs.checks is
 
   leaf_zero : (owner : Owner) → Contains (new_leaf_owners words) owner → word_of words owner ≡ 0
   unfolding split_logs
@@ -114,7 +114,7 @@ module _ (words : List ℕ) (sound : IsSound words) where
           let texts : Contains (text_columns words) column = filter-Contains (is_text words) (all_columns words) column among parts.0 in
           ⊎_elim
           (λ (here : place_of words header index ≡ at). ap (λ (k : ℕ). get_or words k 0) (sym here)
-          ∙ zero_at words (flat_map (spare_slots words) (text_columns words)) (place_of words header index) sound.spare_slots.checks
+          ∙ zero_at words (flat_map (spare_slots words) (text_columns words)) (place_of words header index) intact.spare_slots.checks
           (flat_map-Contains (spare_slots words) (text_columns words) column (place_of words header index) texts spare))
           (λ none. absurd (Contains-nil at none)) (Contains-cons (place_of words header index) at [] (rw hit at is))
 
@@ -128,7 +128,7 @@ module _ (words : List ℕ) (sound : IsSound words) where
   unfolding idle_rule
   no_busy lane is =
       let parts = Contains-filter (λ l. not (eqb (get_or words (lane_op_at l) 0) 0)) (below 16) lane is in
-      let idle : eqb (get_or words (lane_op_at lane) 0) 0 ≡ true = All-contains Holds (idle_rule words) (zero_check words (lane_op_at lane)) sound.idle.checks
+      let idle : eqb (get_or words (lane_op_at lane) 0) 0 ≡ true = All-contains Holds (idle_rule words) (zero_check words (lane_op_at lane)) intact.idle.checks
       (map-Contains (λ l. zero_check words (lane_op_at l)) (below 16) lane parts.0) in
       both_ways (eqb (get_or words (lane_op_at lane) 0) 0) (not-true (eqb (get_or words (lane_op_at lane) 0) 0) parts.1) idle
 
@@ -158,16 +158,16 @@ module _ (words : List ℕ) (sound : IsSound words) where
       (λ slot. unfinished_zero at slot)
       (Contains-append_cases (map (λ (o : Owner). o.at) (new_leaf_owners words)) (unfinished_slots words) at is)
 
-  pub sound_apart : OwnersAreApart words
+  pub intact_apart : OwnersAreApart words
   unfolding single_owner_rule
-  sound_apart = record {
+  intact_apart = record {
     firm = all_from (λ owner. names_one words owner ≡ true → owns_block words owner ≡ true) (firm_owners words) (λ owner is. ⊎_elim
         (λ stored named. owns owner stored)
         (λ leaf named. absurd (both_ways (eqb (word_of words owner) 0) (not-true (eqb (word_of words owner) 0) named) (eq-eqb (word_of words owner) 0 (leaf_zero owner leaf))))
         (Contains-append_cases (owner_words words) (new_leaf_owners words) owner is));
     unfinished = all_from (λ at. get_or words at 0 ≢ 0 → (is_pointer words (get_or words at 0) ≡ true) × Contains (map (λ (block : Block). block.first) (live_blocks words)) (place_in (get_or words at 0)))
         (unfinished_slots words) (λ at is some. absurd (some (unfinished_zero at is)));
-    apart = subst (AllPairs (NameApart words)) (sym all_places) (pairs_apart words [] owned_places unowned_places sound.single_owners.checks pointer_at unowned_zero);
+    apart = subst (AllPairs (NameApart words)) (sym all_places) (pairs_apart words [] owned_places unowned_places intact.single_owners.checks pointer_at unowned_zero);
     targets = none_busy (λ lane. Contains (lane_targets words) (lane_owner words lane));
     lanes = λ i j d order lt. absurd (no_busy (get_or (busy_lanes words) j d) (Contains-get_or (busy_lanes words) j d lt));
     alone = none_busy (λ lane. All (λ at. (at ≡ lane_owner words lane) ⊎ (get_or words at 0 ≢ lane_block words lane)) (owner_places words));

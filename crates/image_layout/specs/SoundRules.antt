@@ -27,12 +27,15 @@ idle_rule words = map (λ lane. zero_check words (lane_op_at lane)) (below 16)
 -- 17: no split is logged, and the table slot at the table count is null
 unfoldable pub split_log_rule : Rule
 split_log_rule words =
-    map (zero_check words) (flat_map (λ column. split_leaf_at column ∷ new_leaf_at column ∷ []) (all_columns words) ++ next_table_slots words)
+    map (zero_check words)
+    (flat_map (λ column. split_leaf_at column ∷ new_leaf_at column ∷ []) (all_columns words)
+    ++ next_table_slots words)
 
 -- 18: no transaction is open, and objects have no commit word and no entries
 unfoldable pub closed_rule : Rule
 closed_rule words =
-    map (zero_check words) (flat_map (λ object. state_at object ∷ commit_word_at object ∷ entry_places words object) (below 16))
+    map (zero_check words)
+    (flat_map (λ object. state_at object ∷ commit_word_at object ∷ entry_places words object) (below 16))
 
 -- 19: each owner word names the first word of a live block of the kind and size that its owner needs
 unfoldable pub owner_rule : Rule
@@ -42,7 +45,8 @@ owner_rule words = map (λ owner. check owner.at (owns_block words owner)) (owne
 abbrev pub distinct_checks : List ℕ → List ℕ → List ℕ → List Check
 distinct_checks words before [] = []
 distinct_checks words before (at ∷ places) =
-    check at (not (is_among before (slice_index words at))) ∷ distinct_checks words (slice_index words at ∷ before) places
+    check at (not (is_among before (slice_index words at)))
+    ∷ distinct_checks words (slice_index words at ∷ before) places
 
 -- 20: no block has two owners
 unfoldable pub single_owner_rule : Rule
@@ -51,12 +55,14 @@ single_owner_rule words = distinct_checks words [] (map (λ owner. owner.at) (ow
 -- 21: each live block has an owner
 unfoldable pub owned_rule : Rule
 owned_rule words =
-    map (λ block. check block.first (is_among (map (word_of words) (owner_words words)) (pointer_word block.first))) (live_blocks words)
+    map (λ block. check block.first (is_among (map (word_of words) (owner_words words)) (pointer_word block.first)))
+    (live_blocks words)
 
 -- A key is above every key of the leaves before, and differs from those at the slots before it in its own leaf.
 abbrev pub is_in_order : List ℕ → Bool → List ℕ → List ℕ → ℕ → Bool
 is_in_order words texts before here key =
-    list_all (λ other. key_below words texts other key) before && list_all (λ other. keys_differ words texts other key) here
+    list_all (λ other. key_below words texts other key) before
+    && list_all (λ other. keys_differ words texts other key) here
 
 -- the key words at the used slots of a leaf
 abbrev pub leaf_keys : List ℕ → ℕ → List ℕ
@@ -71,20 +77,25 @@ slot_order_checks words texts before here leaf (slot ∷ slots) =
 abbrev pub order_checks : List ℕ → Bool → List ℕ → List ℕ → List Check
 order_checks words texts before [] = []
 order_checks words texts before (leaf ∷ leaves) =
-    slot_order_checks words texts before [] leaf (leaf_slots words leaf) ++ order_checks words texts (before ++ leaf_keys words leaf) leaves
+    slot_order_checks words texts before [] leaf (leaf_slots words leaf)
+    ++ order_checks words texts (before ++ leaf_keys words leaf) leaves
 
 -- 22: along a leaf list every key is below every key of a later leaf, and the keys in one leaf differ
 unfoldable pub order_rule : Rule
-order_rule words = flat_map (λ column. order_checks words (is_text words column) [] (leaf_list words column)) (all_columns words)
+order_rule words =
+    flat_map (λ column. order_checks words (is_text words column) [] (leaf_list words column)) (all_columns words)
 
 unfoldable pub fingerprint_checks : List ℕ → Bool → ℕ → List Check
 fingerprint_checks words texts leaf =
-    map (λ slot. check (fingerprint_at leaf slot) (slot_fingerprint words leaf slot == key_fingerprint words texts (slice_index words (key_at leaf slot))))
+    map (λ slot. check (fingerprint_at leaf slot)
+    (slot_fingerprint words leaf slot == key_fingerprint words texts (slice_index words (key_at leaf slot))))
     (leaf_slots words leaf)
 
 -- 23: the fingerprints of used slots are those of their keys
 unfoldable pub fingerprint_rule : Rule
-fingerprint_rule words = flat_map (λ column. flat_map (fingerprint_checks words (is_text words column)) (leaf_list words column)) (all_columns words)
+fingerprint_rule words =
+    flat_map (λ column. flat_map (fingerprint_checks words (is_text words column)) (leaf_list words column))
+    (all_columns words)
 
 -- a used slot of a leaf: the places of its key word and of its code
 pub record UsedSlot : Type 0 where
@@ -94,17 +105,20 @@ pub record UsedSlot : Type 0 where
 -- the used slots along a column's leaves
 unfoldable pub column_slots : List ℕ → ℕ → List UsedSlot
 column_slots words column =
-    flat_map (λ leaf. map (λ slot. record { key = key_at leaf slot; code = code_at leaf slot }) (leaf_slots words leaf)) (leaf_list words column)
+    flat_map (λ leaf. map (λ slot. record { key = key_at leaf slot; code = code_at leaf slot }) (leaf_slots words leaf))
+    (leaf_list words column)
 
 -- a code has a published dictionary slot below the length, in which the key word stands
 abbrev pub is_code_of : List ℕ → ℕ → ℕ → ℕ → Bool
 is_code_of words column key code =
-    nat_lt code (dictionary_length words column) && nat_lt code (capacity words (dictionary_header column)) && (dictionary_word words column code == key)
+    nat_lt code (dictionary_length words column) && nat_lt code (capacity words (dictionary_header column))
+    && (dictionary_word words column code == key)
 
 abbrev pub code_checks : List ℕ → ℕ → List ℕ → List UsedSlot → List Check
 code_checks words column before [] = []
 code_checks words column before (slot ∷ slots) =
-    check slot.code (is_code_of words column (slice_index words slot.key) (slice_index words slot.code) && not (is_among before (slice_index words slot.code)))
+    check slot.code (is_code_of words column (slice_index words slot.key) (slice_index words slot.code)
+    && not (is_among before (slice_index words slot.code)))
     ∷ code_checks words column (slice_index words slot.code ∷ before) slots
 
 -- 24: the codes of used slots differ, and each is that of its key word in the dictionary
@@ -113,7 +127,8 @@ code_rule words = flat_map (λ column. code_checks words column [] (column_slots
 
 unfoldable pub text_checks : List ℕ → ℕ → List Check
 text_checks words column =
-    map (λ at. check (place_in (slice_index words at)) (is_utf8 (text_at words (place_in (slice_index words at))))) (dictionary_slots words column)
+    map (λ at. check (place_in (slice_index words at)) (is_utf8 (text_at words (place_in (slice_index words at)))))
+    (dictionary_slots words column)
 
 -- 25: texts are UTF-8
 unfoldable pub text_rule : Rule
@@ -123,7 +138,8 @@ text_rule words = flat_map (text_checks words) (text_columns words)
 abbrev pub spare_slots : List ℕ → ℕ → List ℕ
 spare_slots words column =
     let length = dictionary_length words column in
-    map (place_of words (dictionary_header column)) (range_with_len length (capacity words (dictionary_header column) - length))
+    map (place_of words (dictionary_header column))
+    (range_with_len length (capacity words (dictionary_header column) - length))
 
 -- 26: they are 0 in a column of texts
 unfoldable pub spare_slot_rule : Rule
@@ -148,7 +164,8 @@ is_ended words stamped created ended =
 
 -- the array's word of a row, and its check where it is published
 abbrev pub row_check : List ℕ → ℕ → ℕ → Bool → List Check
-row_check words header row holds = (if nat_lt row (capacity words header) then check (place_of words header row) holds ∷ [] else [])
+row_check words header row holds =
+    (if nat_lt row (capacity words header) then check (place_of words header row) holds ∷ [] else [])
 
 abbrev pub row_checks : List ℕ → ℕ → ℕ → List Check
 row_checks words block row =
@@ -167,7 +184,8 @@ is_row_bound words block bound =
 unfoldable pub stamp_checks : List ℕ → ℕ → List Check
 stamp_checks words block =
     check (high_at block) (is_row_bound words block (slice_index words (high_at block)))
-    ∷ flat_map (row_checks words block) (below (max (capacity words (created_header block)) (capacity words (ended_header block))))
+    ∷ flat_map (row_checks words block)
+    (below (max (capacity words (created_header block)) (capacity words (ended_header block))))
 
 -- 27: stamps
 unfoldable pub stamp_rule : Rule
@@ -184,7 +202,9 @@ row_code_check words row column =
 
 -- the rows that a commit created
 abbrev pub committed_rows : List ℕ → ℕ → List ℕ
-committed_rows words block = filter (λ row. is_commit words (array_word words (created_header block) row)) (below (min (slice_index words (high_at block)) (capacity words (created_header block))))
+committed_rows words block =
+    filter (λ row. is_commit words (array_word words (created_header block) row))
+    (below (min (slice_index words (high_at block)) (capacity words (created_header block))))
 
 -- 28: a row that a commit created has a value in each column that has a word for it
 unfoldable pub row_code_rule : Rule
@@ -195,11 +215,13 @@ row_code_rule words =
 -- 29: the words of a page that was given back are 0
 unfoldable pub given_back_rule : Rule
 given_back_rule words =
-    map (zero_check words) (flat_map (λ page. range_with_len (page_at page) 512) (filter (is_given_back words) (below (page_count words))))
+    map (zero_check words)
+    (flat_map (λ page. range_with_len (page_at page) 512) (filter (is_given_back words) (below (page_count words))))
 
 -- the names at two places are one, word for word
 abbrev pub same_name : List ℕ → ℕ → ℕ → Bool
-same_name words name other = list_all (λ word. slice_index words (name + word) == slice_index words (other + word)) (below 3)
+same_name words name other =
+    list_all (λ word. slice_index words (name + word) == slice_index words (other + word)) (below 3)
 
 -- each name differs from those before it
 abbrev pub name_place_checks : List ℕ → List ℕ → List ℕ → List Check
@@ -247,22 +269,44 @@ rest_rules =
 abbrev pub fault : List ℕ → Option Fault
 fault words = first_fault (entry_rules ++ rest_rules) words
 
--- the image keeps every rule
-pub record IsSound (words : List ℕ) : Type 0 where
+-- An image of either version that is intact: it keeps rules 1 to 30.
+pub record IsIntact (words : List ℕ) : Type 0 where
+  -- 1 to 15, which every image keeps that a power cut can leave
   pub entry : KeepsEntryRules words
+  -- 16: each lane is idle
   pub idle : Keeps words idle_rule
+  -- 17: no split is logged, and no table is being created
   pub split_logs : Keeps words split_log_rule
+  -- 18: no transaction is open, and none left an entry
   pub closed : Keeps words closed_rule
+  -- 19: each owner word names a live block
   pub owners : Keeps words owner_rule
+  -- 20: no block has two owners
   pub single_owners : Keeps words single_owner_rule
+  -- 21: each live block has an owner
   pub owned : Keeps words owned_rule
+  -- 22: keys stand in order along a column's leaves
   pub order : Keeps words order_rule
+  -- 23: fingerprints are those of their keys
   pub fingerprints : Keeps words fingerprint_rule
+  -- 24: codes are those of their keys
   pub codes : Keeps words code_rule
+  -- 25: texts are UTF-8
   pub texts : Keeps words text_rule
+  -- 26: dictionaries of texts have nothing behind their length
   pub spare_slots : Keeps words spare_slot_rule
+  -- 27: stamps are those of commits
   pub stamps : Keeps words stamp_rule
+  -- 28: rows that commits created have values
   pub row_codes : Keeps words row_code_rule
+  -- 29: pages that were given back are 0
   pub given_back : Keeps words given_back_rule
+  -- 30: names differ
   pub names : Keeps words distinct_name_rule
+
+-- a sound image keeps every rule: it is intact, and of the latest version
+pub record IsSound (words : List ℕ) : Type 0 where
+  -- 1 to 30
+  pub intact : IsIntact words
+  -- 31: the version is 2
   pub latest : Keeps words latest_version_rule

@@ -13,7 +13,7 @@ use Rattle.image_layout.specs.Places.{below}
 use Rattle.image_layout.specs.SoundRules.{IsSound}
 use Rattle.image_layout.specs.Tables.{table_count}
 use Rattle.image_layout.proofs.FreshImage.{length-fresh_words}
-use Rattle.image_layout.proofs.SoundApart.{sound_apart}
+use Rattle.image_layout.proofs.SoundApart.{intact_apart}
 use Rattle.heap_palloc.specs.Law.{slot_by, MayTakeNewSlot}
 use Rattle.heap_palloc.proofs.RulesKept.{fresh_rules}
 use Rattle.shown_state.specs.LogicalState.{logical_state}
@@ -79,7 +79,7 @@ module _ (segments : ℕ) (some : 0 < segments) where
     }
 
     pub asked : IsCreationOn (fresh_words segments) (first_table name columns)
-    asked = record { may = may_create; rules = sound.entry; owners = sound_apart (fresh_words segments) sound }
+    asked = record { may = may_create; rules = sound.intact.entry; owners = intact_apart (fresh_words segments) sound.intact }
 
     ends : EndsCreation (first_table name columns) (fresh_words segments) (created_words (fresh_words segments) (first_table name columns))
     ends = (creation_holds (first_table name columns)).end (fresh_words segments) may_create

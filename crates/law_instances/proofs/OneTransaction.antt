@@ -7,7 +7,7 @@ use Rattle.image_layout.specs.Objects as objects
 use Rattle.image_layout.specs.Objects.{ready_count, entry_places}
 use Rattle.image_layout.specs.SoundRules.{IsSound}
 use Rattle.image_layout.proofs.FreshImage.{length-fresh_words}
-use Rattle.image_layout.proofs.SoundApart.{sound_apart}
+use Rattle.image_layout.proofs.SoundApart.{intact_apart}
 use Rattle.shown_state.proofs.FormattedImage.{formatted_is_sound}
 use Rattle.txn_object.specs.declared.entry.Entry.{Entry}
 use Rattle.txn_object.specs.Changes.{begun, with_entry, no_transaction, ClearsAll, ClearsCommit, IsBegun, IsBeginBefore, IsEntered, IsEntryBefore, IsObjectOf, IsRetiredBy, IsSpelt}
@@ -58,7 +58,7 @@ module _ (segments object : ℕ) (is : IsFresh segments object) where
   sound = formatted_is_sound segments is.some
 
   is_object : IsObjectOf (fresh_words segments) object
-  is_object = record { number = is.number; rules = sound.entry; owners = sound_apart (fresh_words segments) sound }
+  is_object = record { number = is.number; rules = sound.intact.entry; owners = intact_apart (fresh_words segments) sound.intact }
 
   has_object : HasObject (fresh_words segments) object
   has_object = place_object (fresh_words segments) object

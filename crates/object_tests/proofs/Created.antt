@@ -12,11 +12,11 @@ use Rattle.shown_state.proofs.FormattedImage.{formatted_is_sound}
 use Rattle.catalog.specs.Entries.{CatalogTable, KeepsTableRules}
 use Rattle.catalog.specs.Creation.{Creation, creation_parts}
 use Rattle.catalog.specs.Calls.{MayPlanCreation, IsCreationPlanned}
-use Rattle.catalog.proofs.Rebuilding.{sound_keeps}
+use Rattle.catalog.proofs.Rebuilding.{intact_keeps}
 use Rattle.catalog.proofs.Creating.{taken_rules, same_heap, published_same, ends_published, creation_plan}
 
 pub fresh_keeps : (segments : ℕ) → 0 < segments → KeepsTableRules (fresh_words segments)
-fresh_keeps segments some = sound_keeps (fresh_words segments) (formatted_is_sound segments some)
+fresh_keeps segments some = intact_keeps (fresh_words segments) (formatted_is_sound segments some).intact
 
 module _ (d : Device) (whole : IsWhole d) (index : HeapIndex) (settled : IsSettled d index) where
   pub tested_may : (tables : List CatalogTable) (count : ℕ) → count ≡ length tables → count ≤ 32 → get_or d.cached 576 0 ≡ 0 → get_or d.cached 515 0 ≡ count → (count < 32 → get_or d.cached (520 + count) 0 ≡ 0) → MayPlanCreation d.cached index tables 0

@@ -17,7 +17,7 @@ use Rattle.image_layout.specs.Tables.{table_count, table_block, table_blocks, co
 use Rattle.image_layout.specs.Objects.{entry_places, last_commit}
 use Rattle.image_layout.specs.Trees.{dictionary_length}
 use Rattle.image_layout.specs.EntryRules.{is_among, text_columns}
-use Rattle.image_layout.specs.SoundRules.{zero_check, idle_rule, split_log_rule, closed_rule, distinct_checks, single_owner_rule, owned_rule, spare_slots, spare_slot_rule, no_commit, is_commit, is_created, is_ended, row_check, row_checks, is_row_bound, stamp_checks, stamp_rule, row_code_check, committed_rows, row_code_rule, latest_version_rule, owner_rule, IsSound}
+use Rattle.image_layout.specs.SoundRules.{zero_check, idle_rule, split_log_rule, closed_rule, distinct_checks, single_owner_rule, owned_rule, spare_slots, spare_slot_rule, no_commit, is_commit, is_created, is_ended, row_check, row_checks, is_row_bound, stamp_checks, stamp_rule, row_code_check, committed_rows, row_code_rule, latest_version_rule, owner_rule, IsIntact, IsSound}
 use Rattle.image_layout.specs.Owners.{Owner, word_of, owns_block, owner_words, leaf_owner, new_leaf_owners, next_table_slots, next_text_slots, unfinished_slots, firm_owners, owner_places, is_replaced_in, is_replaced, NameApart, busy_lanes, lane_block}
 use Rattle.image_layout.proofs.Faults.{Holds, mapped_hold}
 use Rattle.image_layout.proofs.Members.{Contains-below, Contains-here, Contains-there, Contains-cons, Contains-nil, Contains-flat_map, flat_map-Contains, Contains-map, map-Contains, Contains-filter}
@@ -430,9 +430,8 @@ module _ (words : List ℕ) (fits : Fits words) (clear : AreClear 16 words) wher
   unfolding row_code_rule
   row_codes = record { checks = each_table (λ block. flat_map (λ row. map (row_code_check words row) (columns_with words block row)) (committed_rows words block)) (λ table lt. table_codes table lt) }
 
-  pub end_is_sound : get_or words version_at 0 ≡ 2 → IsSound words
-  unfolding latest_version_rule
-  end_is_sound version = record {
+  end_is_intact : IsIntact words
+  end_is_intact = record {
     entry = fits.entry;
     idle = idle;
     split_logs = split_logs;
@@ -449,5 +448,11 @@ module _ (words : List ℕ) (fits : Fits words) (clear : AreClear 16 words) wher
     row_codes = row_codes;
     given_back = fits.given_back;
     names = fits.names;
+  }
+
+  pub end_is_sound : get_or words version_at 0 ≡ 2 → IsSound words
+  unfolding latest_version_rule
+  end_is_sound version = record {
+    intact = end_is_intact;
     latest = record { checks = All-cons Holds (check version_at (eqb (get_or words version_at 0) 2)) [] (eq-eqb (get_or words version_at 0) 2 version) (All-nil Holds) };
   }

@@ -14,7 +14,7 @@ use Rattle.image_layout.specs.Checks.{check, Keeps}
 use Rattle.image_layout.specs.Objects.{entry_places}
 use Rattle.image_layout.specs.Owners.{owner_words}
 use Rattle.image_layout.specs.EntryRules.{magic_rule, version_rule, last_rule, table_count_rule, table_slot_rule, arrays_rule, tree_rule, name_rule, text_key_rule, object_rule, objects_rule, entries_rule, KeepsEntryRules}
-use Rattle.image_layout.specs.SoundRules.{idle_rule, split_log_rule, closed_rule, owner_rule, single_owner_rule, owned_rule, order_rule, fingerprint_rule, code_rule, text_rule, spare_slot_rule, stamp_rule, row_code_rule, zero_check, given_back_rule, distinct_name_rule, latest_version_rule, IsSound}
+use Rattle.image_layout.specs.SoundRules.{idle_rule, split_log_rule, closed_rule, owner_rule, single_owner_rule, owned_rule, order_rule, fingerprint_rule, code_rule, text_rule, spare_slot_rule, stamp_rule, row_code_rule, zero_check, given_back_rule, distinct_name_rule, latest_version_rule, IsIntact, IsSound}
 use Rattle.image_layout.proofs.Faults.{Holds, all_hold, mapped_hold}
 use Rattle.image_layout.proofs.Members.{Contains-below, Contains-flat_map, Contains-filter}
 use Rattle.image_layout.proofs.Heap.{page_of_block}
@@ -189,9 +189,9 @@ formatted_keeps_entry segments some = record {
   entries = record { checks = all_hold (entries_rule (formatted segments)) refl };
 }
 
-formatted_sound : (segments : ℕ) → 0 < segments → IsSound (formatted segments)
-unfolding first_segment idle_rule split_log_rule closed_rule entry_places owner_rule owner_words single_owner_rule order_rule fingerprint_rule code_rule text_rule spare_slot_rule stamp_rule row_code_rule distinct_name_rule latest_version_rule
-formatted_sound segments some = record {
+formatted_intact : (segments : ℕ) → 0 < segments → IsIntact (formatted segments)
+unfolding first_segment idle_rule split_log_rule closed_rule entry_places owner_rule owner_words single_owner_rule order_rule fingerprint_rule code_rule text_rule spare_slot_rule stamp_rule row_code_rule distinct_name_rule
+formatted_intact segments some = record {
   entry = formatted_keeps_entry segments some;
   idle = record { checks = all_hold (idle_rule (formatted segments)) refl };
   split_logs = record { checks = all_hold (split_log_rule (formatted segments)) refl };
@@ -208,6 +208,12 @@ formatted_sound segments some = record {
   row_codes = record { checks = all_hold (row_code_rule (formatted segments)) refl };
   given_back = formatted_given_back segments some;
   names = record { checks = all_hold (distinct_name_rule (formatted segments)) refl };
+}
+
+formatted_sound : (segments : ℕ) → 0 < segments → IsSound (formatted segments)
+unfolding first_segment latest_version_rule
+formatted_sound segments some = record {
+  intact = formatted_intact segments some;
   latest = record { checks = all_hold (latest_version_rule (formatted segments)) refl };
 }
 

@@ -1,4 +1,4 @@
--- In a sound image each live block has one owner.
+-- In an intact image each live block has one owner.
 use Rattle.std.proofs.Common.{◌≡◌, ⊎_elim, ℕ, zero, suc, ◌+◌, ◌*◌, ◌<◌, ◌≤◌, min, Bool, true, false, not, ◌&&◌, ltb, eqb, List, [], ◌∷◌, ◌++◌, length, get_or, map, refl, sym, ◌∙◌, ap, subst, arith}
 use Rattle.std.specs.Prelude.{◌==◌, Contains, All, filter, IsPermutation}
 use Rattle.std.specs.List.{flat_map, list_any, range_with_len}
@@ -15,7 +15,7 @@ use Rattle.image_layout.specs.Trees.{leaf_list, leaf_slots, pair_at, leaf_pairs,
 use Rattle.image_layout.specs.Owners.{Owner, word_of, named_block, owner_words, owns_block, dictionary_slots, key_words, EachBlockHasOneOwner}
 use Rattle.image_layout.specs.Checks.{check}
 use Rattle.image_layout.specs.EntryRules.{is_among}
-use Rattle.image_layout.specs.SoundRules.{owner_rule, distinct_checks, single_owner_rule, owned_rule, UsedSlot, column_slots, is_code_of, code_checks, code_rule, IsSound}
+use Rattle.image_layout.specs.SoundRules.{owner_rule, distinct_checks, single_owner_rule, owned_rule, UsedSlot, column_slots, is_code_of, code_checks, code_rule, IsIntact}
 use Rattle.image_layout.proofs.Heap.{Holds}
 use Rattle.image_layout.proofs.Members.{below-Contains, Contains-here, Contains-there, Contains-cons, Contains-nil, Contains-flat_map, flat_map-Contains, Contains-map, map-Contains}
 use Rattle.image_layout.proofs.Heap.{small_class}
@@ -190,31 +190,31 @@ named_differ words (owner ∷ owners) (fresh, rest) points = (
   named_differ words owners rest (λ other among. points other (Contains-there owner other owners among)),
 )
 
-owner_owns : (words : List ℕ) → IsSound words → (owner : Owner) → Contains (owner_words words) owner → owns_block words owner ≡ true
+owner_owns : (words : List ℕ) → IsIntact words → (owner : Owner) → Contains (owner_words words) owner → owns_block words owner ≡ true
 unfolding owner_rule
-owner_owns words sound owner is =
-    All-contains Holds (owner_rule words) (check owner.at (owns_block words owner)) sound.owners.checks (map-Contains (λ o. check o.at (owns_block words o)) (owner_words words) owner is)
+owner_owns words intact owner is =
+    All-contains Holds (owner_rule words) (check owner.at (owns_block words owner)) intact.owners.checks (map-Contains (λ o. check o.at (owns_block words o)) (owner_words words) owner is)
 
-owner_points : (words : List ℕ) → IsSound words → (owner : Owner) → Contains (owner_words words) owner → word_of words owner ≡ pointer_word (named_block words owner)
-owner_points words sound owner is =
-    let parts = and_parts (is_pointer words (word_of words owner)) (is_live words (named_block words owner) owner.block_words) (owner_owns words sound owner is) in
+owner_points : (words : List ℕ) → IsIntact words → (owner : Owner) → Contains (owner_words words) owner → word_of words owner ≡ pointer_word (named_block words owner)
+owner_points words intact owner is =
+    let parts = and_parts (is_pointer words (word_of words owner)) (is_live words (named_block words owner) owner.block_words) (owner_owns words intact owner is) in
     eqb-true (word_of words owner) (pointer_word (named_block words owner)) (and_parts (eqb (word_of words owner) (pointer_word (named_block words owner))) (ltb (named_block words owner) (length words)) parts.0).0
 
-named_is_live : (words : List ℕ) → IsSound words → (place : ℕ) → Contains (map (named_block words) (owner_words words)) place → Contains (map first_of (live_blocks words)) place
-named_is_live words sound place is =
+named_is_live : (words : List ℕ) → IsIntact words → (place : ℕ) → Contains (map (named_block words) (owner_words words)) place → Contains (map first_of (live_blocks words)) place
+named_is_live words intact place is =
     let (owner, among, named) = Contains-map (named_block words) (owner_words words) place is in
-    let parts = and_parts (is_pointer words (word_of words owner)) (is_live words (named_block words owner) owner.block_words) (owner_owns words sound owner among) in
+    let parts = and_parts (is_pointer words (word_of words owner)) (is_live words (named_block words owner) owner.block_words) (owner_owns words intact owner among) in
     let (block, live, same) = any_one (λ b. (b.first == named_block words owner) && (b.words == owner.block_words)) (live_blocks words) parts.1 in
     let first = eqb-true block.first (named_block words owner) (and_parts (eqb block.first (named_block words owner)) (eqb block.words owner.block_words) same).0 in
     let C : ℕ → Type 0 = λ z. Contains (map first_of (live_blocks words)) z in
     subst C (first ∙ named) (map-Contains first_of (live_blocks words) block live)
 
-live_is_named : (words : List ℕ) → IsSound words → (place : ℕ) → Contains (map first_of (live_blocks words)) place → Contains (map (named_block words) (owner_words words)) place
+live_is_named : (words : List ℕ) → IsIntact words → (place : ℕ) → Contains (map first_of (live_blocks words)) place → Contains (map (named_block words) (owner_words words)) place
 unfolding owned_rule
-live_is_named words sound place is =
+live_is_named words intact place is =
     let (block, live, first) = Contains-map first_of (live_blocks words) place is in
     let owners = owner_words words in
-    let owned = All-contains Holds (owned_rule words) (check block.first (is_among (map (word_of words) owners) (pointer_word block.first))) sound.owned.checks
+    let owned = All-contains Holds (owned_rule words) (check block.first (is_among (map (word_of words) owners) (pointer_word block.first))) intact.owned.checks
     (map-Contains (λ b. check b.first (is_among (map (word_of words) owners) (pointer_word b.first))) (live_blocks words) block live) in
     let (owner, among, points) = Contains-map (word_of words) owners (pointer_word block.first) (Contains-among (map (word_of words) owners) (pointer_word block.first) owned) in
     let C : ℕ → Type 0 = λ z. Contains (map (named_block words) owners) z in
@@ -231,23 +231,23 @@ code_is words column before (first ∷ slots) hold slot is =
     ⊎_elim (λ here. subst P here (and_parts (is_code_of words column (get_or words first.key 0) code) (not (is_among before code)) (All-head Holds here_check rest hold)).0)
     (λ there. code_is words column (code ∷ before) slots (All-tail Holds here_check rest hold) slot there) (Contains-cons first slot slots is)
 
-column_codes : (words : List ℕ) → IsSound words → (column : ℕ) → Contains (all_columns words) column → All Holds (code_checks words column [] (column_slots words column))
+column_codes : (words : List ℕ) → IsIntact words → (column : ℕ) → Contains (all_columns words) column → All Holds (code_checks words column [] (column_slots words column))
 unfolding code_rule
-column_codes words sound column is k d lt =
+column_codes words intact column is k d lt =
     let checks = code_checks words column [] (column_slots words column) in
-    All-contains Holds (code_rule words) (get_or checks k d) sound.codes.checks
+    All-contains Holds (code_rule words) (get_or checks k d) intact.codes.checks
     (flat_map-Contains (λ c. code_checks words c [] (column_slots words c)) (all_columns words) column (get_or checks k d) is (Contains-get_or checks k d lt))
 
-key_has_slot : (words : List ℕ) → IsSound words → (column : ℕ) → Contains (all_columns words) column → (key : ℕ) → Contains (key_words words column) key → Contains (map (λ at. get_or words at 0) (dictionary_slots words column)) key
+key_has_slot : (words : List ℕ) → IsIntact words → (column : ℕ) → Contains (all_columns words) column → (key : ℕ) → Contains (key_words words column) key → Contains (map (λ at. get_or words at 0) (dictionary_slots words column)) key
 unfolding leaf_pairs column_slots
-key_has_slot words sound column is key among =
+key_has_slot words intact column is key among =
     let (pair, used, key_is) = Contains-map (λ p. p.key) (used_pairs words column) key among in
     let (leaf, listed, of) = Contains-flat_map (leaf_pairs words) (leaf_list words column) pair used in
     let (slot, set, pair_is) = Contains-map (pair_at words leaf) (leaf_slots words leaf) pair of in
     let used_slot : UsedSlot = record { key = key_at leaf slot; code = code_at leaf slot } in
     let stands = flat_map-Contains (λ l. map (λ s. record { key = key_at l s; code = code_at l s }) (leaf_slots words l)) (leaf_list words column) leaf used_slot listed
     (map-Contains (λ s. record { key = key_at leaf s; code = code_at leaf s }) (leaf_slots words leaf) slot set) in
-    coded (get_or words (key_at leaf slot) 0) (get_or words (code_at leaf slot) 0) (ap (λ p. p.key) pair_is ∙ key_is) (code_is words column [] (column_slots words column) (column_codes words sound column is) used_slot stands)
+    coded (get_or words (key_at leaf slot) 0) (get_or words (code_at leaf slot) 0) (ap (λ p. p.key) pair_is ∙ key_is) (code_is words column [] (column_slots words column) (column_codes words intact column is) used_slot stands)
   where
     coded : (word code : ℕ) → word ≡ key → is_code_of words column word code ≡ true → Contains (map (λ at. get_or words at 0) (dictionary_slots words column)) key
     coded word code word_is holds =
@@ -262,11 +262,11 @@ key_has_slot words sound column is key among =
         (map-Contains (λ at. get_or words at 0) (dictionary_slots words column) (place_of words (dictionary_header column) code)
         (map-Contains (place_of words (dictionary_header column)) (below (min size room)) code (below-Contains (min size room) code (omega arith))))
 
-pub sound_has_owners : (words : List ℕ) → IsSound words → EachBlockHasOneOwner words
+pub intact_has_owners : (words : List ℕ) → IsIntact words → EachBlockHasOneOwner words
 unfolding single_owner_rule
-sound_has_owners words sound = record {
+intact_has_owners words intact = record {
   blocks = same_members (map first_of (live_blocks words)) (map (named_block words) (owner_words words)) (blocks_differ words)
-      (named_differ words (owner_words words) (words_differ words [] (map (λ owner. owner.at) (owner_words words)) sound.single_owners.checks).0 (owner_points words sound))
-      (live_is_named words sound) (named_is_live words sound);
-  keys = λ k d lt text j e within. key_has_slot words sound (get_or (all_columns words) k d) (Contains-get_or (all_columns words) k d lt) (get_or (key_words words (get_or (all_columns words) k d)) j e) (Contains-get_or (key_words words (get_or (all_columns words) k d)) j e within);
+      (named_differ words (owner_words words) (words_differ words [] (map (λ owner. owner.at) (owner_words words)) intact.single_owners.checks).0 (owner_points words intact))
+      (live_is_named words intact) (named_is_live words intact);
+  keys = λ k d lt text j e within. key_has_slot words intact (get_or (all_columns words) k d) (Contains-get_or (all_columns words) k d lt) (get_or (key_words words (get_or (all_columns words) k d)) j e) (Contains-get_or (key_words words (get_or (all_columns words) k d)) j e within);
 }

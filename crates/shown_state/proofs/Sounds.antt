@@ -1,4 +1,4 @@
--- A sound image fits.
+-- An intact image fits, and so does a sound one.
 use Rattle.std.proofs.Common.{◌≡◌, inl, inr, ⊎_elim, ℕ, ◌+◌, ◌-◌, ◌<◌, ◌≤◌, max, min, Bool, true, false, not, ◌&&◌, ◌||◌, eqb, leb, ltb, List, [], ◌∷◌, ◌++◌, get_or, map, refl, sym, ◌∙◌, ap, subst, arith}
 use Rattle.std.specs.Prelude.{All, Contains, fold}
 use Rattle.std.specs.List.{flat_map, list_all, range_with_len}
@@ -16,16 +16,16 @@ use Rattle.image_layout.specs.Tables.{table_count, table_block, table_blocks, co
 use Rattle.image_layout.specs.Objects.{is_open, open_commit, entry_places, last_commit}
 use Rattle.image_layout.specs.Trees.{dictionary_length, is_about_to_link}
 use Rattle.image_layout.specs.EntryRules.{is_among, text_columns}
-use Rattle.image_layout.specs.SoundRules.{zero_check, idle_rule, split_log_rule, closed_rule, owned_rule, spare_slots, spare_slot_rule, no_commit, is_commit, is_created, is_ended, row_check, row_checks, is_row_bound, stamp_checks, stamp_rule, row_code_check, committed_rows, row_code_rule, latest_version_rule, IsSound}
+use Rattle.image_layout.specs.SoundRules.{zero_check, idle_rule, split_log_rule, closed_rule, owned_rule, spare_slots, spare_slot_rule, no_commit, is_commit, is_created, is_ended, row_check, row_checks, is_row_bound, stamp_checks, stamp_rule, row_code_check, committed_rows, row_code_rule, latest_version_rule, IsIntact, IsSound}
 use Rattle.image_layout.specs.Owners.{Owner, word_of, owner_words, new_leaf_owners, next_table_slots, next_text_slots, unfinished_slots, firm_owners, owner_places, busy_lanes, lane_block}
 use Rattle.image_layout.proofs.Faults.{Holds, mapped_hold}
 use Rattle.image_layout.proofs.Members.{Contains-below, below-Contains, Contains-here, Contains-there, Contains-cons, Contains-nil, Contains-flat_map, flat_map-Contains, Contains-map, map-Contains, Contains-filter, filter-Contains}
 use Rattle.image_layout.proofs.OwnersApart.{all_from}
-use Rattle.image_layout.proofs.SoundApart.{sound_apart}
+use Rattle.image_layout.proofs.SoundApart.{intact_apart}
 use Rattle.shown_state.specs.LogicalState.{created_rows, row_bound, open_bound}
 use Rattle.shown_state.specs.Logs.{LaneFits, SlotFits, SplitFits, LogsFit}
 use Rattle.shown_state.specs.Fits.{spoken_for, later_slots, later_slot_rule, is_undecided, undecided_bound, used_up, CreatorFits, EnderFits, HasValue, RowsFit}
-use Rattle.shown_state.specs.StepLaws.{SoundFits}
+use Rattle.shown_state.specs.StepLaws.{IntactFits, SoundFits}
 use Rattle.shown_state.proofs.Ends.{none_filtered}
 
 -- a sound image is of version 2
@@ -37,7 +37,7 @@ is_latest words sound =
     let two = eqb-true (get_or words version_at 0) 2 is in
     ne_eqb (get_or words version_at 0) 1 (λ one. omega (arith, one, two))
 
-module _ (words : List ℕ) (sound : IsSound words) where
+module _ (words : List ℕ) (intact : IsIntact words) where
   zero_at : (places : List ℕ) (at : ℕ) → All Holds (map (zero_check words) places) → Contains places at → get_or words at 0 ≡ 0
   zero_at places at holds is = eqb-true (get_or words at 0) 0 (All-contains Holds (map (zero_check words) places) (zero_check words at) holds (map-Contains (zero_check words) places at is))
 
@@ -48,7 +48,7 @@ module _ (words : List ℕ) (sound : IsSound words) where
 
   log_zero : (at : ℕ) → Contains (flat_map logs_of (all_columns words) ++ next_table_slots words) at → get_or words at 0 ≡ 0
   unfolding split_log_rule
-  log_zero at is = let rule = sound.split_logs in zero_at (flat_map logs_of (all_columns words) ++ next_table_slots words) at rule.checks is
+  log_zero at is = let rule = intact.split_logs in zero_at (flat_map logs_of (all_columns words) ++ next_table_slots words) at rule.checks is
 
   column_log : (column at : ℕ) → Contains (all_columns words) column → Contains (logs_of column) at → get_or words at 0 ≡ 0
   column_log column at is log = log_zero at (Contains-append_left (flat_map logs_of (all_columns words)) (next_table_slots words) at (flat_map-Contains logs_of (all_columns words) column at is log))
@@ -61,11 +61,11 @@ module _ (words : List ℕ) (sound : IsSound words) where
       let count = capacity words (dictionary_header column) - first in
       let at = get_or-range_with_len first count (k - first) k (omega (arith, low, high)) in
       let within : Contains (range_with_len first count) k = (k - first, omega (arith, low, high, length-range_with_len first count), omega (arith, at, low)) in
-      let rule = sound.spare_slots in
+      let rule = intact.spare_slots in
       zero_at (flat_map (spare_slots words) (text_columns words)) (place_of words (dictionary_header column) k) rule.checks
       (flat_map-Contains (spare_slots words) (text_columns words) column (place_of words (dictionary_header column) k) text (map-Contains (place_of words (dictionary_header column)) (range_with_len first count) k within))
 
-  slot_zero : (at : ℕ) → Contains (unfinished_slots words) at → get_or words at 0 ≡ 0
+  pub slot_zero : (at : ℕ) → Contains (unfinished_slots words) at → get_or words at 0 ≡ 0
   slot_zero at is = ⊎_elim
       (λ slot. log_zero at (Contains-append_right (flat_map logs_of (all_columns words)) (next_table_slots words) at slot))
       (λ text. let (column, one, here) = Contains-flat_map (next_text_slots words) (all_columns words) at text in next_zero column at one here)
@@ -86,12 +86,12 @@ module _ (words : List ℕ) (sound : IsSound words) where
   unfolding idle_rule
   no_busy lane is =
       let parts = Contains-filter (λ l. not (eqb (get_or words (lane_op_at l) 0) 0)) (below 16) lane is in
-      let rule = sound.idle in
+      let rule = intact.idle in
       both_ways (eqb (get_or words (lane_op_at lane) 0) 0) (not-true (eqb (get_or words (lane_op_at lane) 0) 0) parts.1)
       (All-contains Holds (map (λ l. zero_check words (lane_op_at l)) (below 16)) (zero_check words (lane_op_at lane)) rule.checks (map-Contains (λ l. zero_check words (lane_op_at l)) (below 16) lane parts.0))
 
-  pub sound_logs : LogsFit words
-  sound_logs = record {
+  pub intact_logs : LogsFit words
+  intact_logs = record {
     lanes = all_from (LaneFits words) (busy_lanes words) (λ lane is. absurd (no_busy lane is));
     blocks = λ i j d order lt. absurd (no_busy (get_or (busy_lanes words) j d) (Contains-get_or (busy_lanes words) j d lt));
     slots = all_from (SlotFits words) (unfinished_slots words) (λ at is some. absurd (some (slot_zero at is)));
@@ -123,13 +123,13 @@ module _ (words : List ℕ) (sound : IsSound words) where
       (λ there. Contains-there n number numbers (named numbers number there))
       (or_cases (eqb n number) (is_among numbers number) is)
 
-  pub sound_held : All (λ block. Contains (spoken_for words) (pointer_word block.first)) (live_blocks words)
+  pub intact_held : All (λ block. Contains (spoken_for words) (pointer_word block.first)) (live_blocks words)
   unfolding owned_rule
-  sound_held = λ k d lt.
+  intact_held = λ k d lt.
       let block = get_or (live_blocks words) k d in
       let live = Contains-get_or (live_blocks words) k d lt in
       let made : Block → Check = λ b. check b.first (is_among (map (word_of words) (owner_words words)) (pointer_word b.first)) in
-      let rule = sound.owned in
+      let rule = intact.owned in
       let is = named (map (word_of words) (owner_words words)) (pointer_word block.first) (All-contains Holds (map made (live_blocks words)) (made block) rule.checks (map-Contains made (live_blocks words) block live)) in
       let (owner, among, here) = Contains-map (word_of words) (owner_words words) (pointer_word block.first) is in
       let firm = map-Contains (λ (o : Owner). o.at) (firm_owners words) owner (Contains-append_left (owner_words words) (new_leaf_owners words) owner among) in
@@ -143,7 +143,7 @@ module _ (words : List ℕ) (sound : IsSound words) where
   unfolding closed_rule
   state_zero object lt =
       let own : ℕ → List ℕ = λ o. state_at o ∷ commit_word_at o ∷ entry_places words o in
-      let rule = sound.closed in
+      let rule = intact.closed in
       zero_at (flat_map own (below 16)) (state_at object) rule.checks
       (flat_map-Contains own (below 16) object (state_at object) (below-Contains 16 object lt) (Contains-here (state_at object) (commit_word_at object ∷ entry_places words object)))
 
@@ -182,7 +182,7 @@ module _ (words : List ℕ) (sound : IsSound words) where
 
     checks : All Holds (stamp_checks words block)
     unfolding stamp_rule
-    checks = λ k d lt. let rule = sound.stamps in All-contains Holds (flat_map (stamp_checks words) (table_blocks words)) (get_or (stamp_checks words block) k d) rule.checks
+    checks = λ k d lt. let rule = intact.stamps in All-contains Holds (flat_map (stamp_checks words) (table_blocks words)) (get_or (stamp_checks words block) k d) rule.checks
         (flat_map-Contains (stamp_checks words) (table_blocks words) block (get_or (stamp_checks words block) k d) block_in (Contains-get_or (stamp_checks words block) k d lt))
 
     abbrev rows : List ℕ
@@ -290,14 +290,14 @@ module _ (words : List ℕ) (sound : IsSound words) where
         let row_in : Contains (committed_rows words block) row = filter-Contains (λ r. is_commit words (born r)) (below (min high (capacity words (created_header block)))) row
         (below-Contains (min high (capacity words (created_header block))) row (omega (arith, low, lt))) commit in
         let codes : ℕ → List Check = λ r. map (row_code_check words r) (columns_with words block r) in
-        let rule = sound.row_codes in
+        let rule = intact.row_codes in
         let known = All-contains Holds (flat_map (λ b. flat_map (λ r. map (row_code_check words r) (columns_with words b r)) (committed_rows words b)) (table_blocks words)) (row_code_check words row column) rule.checks
         (flat_map-Contains (λ b. flat_map (λ r. map (row_code_check words r) (columns_with words b r)) (committed_rows words b)) (table_blocks words) block (row_code_check words row column) block_in
         (flat_map-Contains codes (committed_rows words block) row (row_code_check words row column) row_in (map-Contains (row_code_check words row) (columns_with words block row) column is))) in
         code_is row column known
 
-    pub sound_rows : RowsFit words table
-    sound_rows = record {
+    pub intact_rows : RowsFit words table
+    intact_rows = record {
       rows = let none = bound_zero table in let undecided = undecided_zero table in omega (arith, none, undecided);
       created_room = let reach = leb-true high (capacity words (created_header block)) reach_parts.0 in let used = used_is in omega (arith, reach, used);
       ended_room = let reach = leb-true high (capacity words (ended_header block)) reach_parts.1 in let used = used_is in omega (arith, reach, used);
@@ -307,8 +307,8 @@ module _ (words : List ℕ) (sound : IsSound words) where
       values = λ row lt some most. all_from (HasValue words row) (columns_with words block row) (λ column is. value_is row column lt some most is);
     }
 
-  pub sound_later : All Holds (map (zero_check words) (flat_map (later_slots words) (text_columns words)))
-  sound_later = mapped_hold (zero_check words) (flat_map (later_slots words) (text_columns words)) (λ at is.
+  pub intact_later : All Holds (map (zero_check words) (flat_map (later_slots words) (text_columns words)))
+  intact_later = mapped_hold (zero_check words) (flat_map (later_slots words) (text_columns words)) (λ at is.
       let (column, text, here) = Contains-flat_map (later_slots words) (text_columns words) at is in
       let first = dictionary_length words column + 1 in
       let count = capacity words (dictionary_header column) - first in
@@ -318,21 +318,25 @@ module _ (words : List ℕ) (sound : IsSound words) where
       let value = get_or-range_with_len first count i k (omega (arith, lt, size)) in
       eq-eqb (get_or words at 0) 0 (ap (λ (p : ℕ). get_or words p 0) (sym place) ∙ spare_zero column k text (omega (arith, value, same)) (omega (arith, value, same, lt, size))))
 
-pub sound_fits : SoundFits
+pub intact_fits : IntactFits
 unfolding later_slot_rule
-sound_fits words image sound = record {
-  entry = sound.entry;
-  apart = sound_apart words sound;
-  logs = sound_logs words sound;
-  held = sound_held words sound;
-  owners = sound.owners;
-  order = sound.order;
-  fingerprints = sound.fingerprints;
-  codes = sound.codes;
-  texts = sound.texts;
-  later_slots = record { checks = sound_later words sound };
-  given_back = sound.given_back;
-  names = sound.names;
-  rows = λ table lt. sound_rows words sound table lt;
-  first = λ version table lt. absurd (both_ways (is_first_version words) (is_latest words sound) version);
+intact_fits words image intact first = record {
+  entry = intact.entry;
+  apart = intact_apart words intact;
+  logs = intact_logs words intact;
+  held = intact_held words intact;
+  owners = intact.owners;
+  order = intact.order;
+  fingerprints = intact.fingerprints;
+  codes = intact.codes;
+  texts = intact.texts;
+  later_slots = record { checks = intact_later words intact };
+  given_back = intact.given_back;
+  names = intact.names;
+  rows = λ table lt. intact_rows words intact table lt;
+  first = first;
 }
+
+pub sound_fits : SoundFits
+sound_fits words image sound =
+    intact_fits words image sound.intact (λ version table lt. absurd (both_ways (is_first_version words) (is_latest words sound) version))

@@ -1,6 +1,6 @@
--- The commits that an image shows, in the words of its stamps: which rows each of them created and ended, with which values,
--- and in which order. And the image of one table, written out, with the state that it shows.
-use Rattle.std.specs.Prelude.{◌≡◌, ◌⊎◌, ◌↔◌, ℕ, pos, negsuc, ◌+◌, ◌-◌, ◌^◌, ◌<◌, ◌≤◌, List, [], ◌∷◌, ◌++◌, length, map, replicate, slice_index, slice_index_or, Contains, AllPairs}
+-- The commits that an image shows, in the words of its stamps: which rows each of them created and ended, with which
+-- values, and in which order. And the image of one table, written out, with the state that it shows.
+use Rattle.std.specs.Prelude.{◌≡◌, ◌⊎◌, ◌↔◌, ℕ, pos, negsuc, ◌+◌, ◌-◌, ◌^◌, ◌<◌, ◌≤◌, List, [], ◌∷◌, ◌++◌, length, map, replicate, slice_index_or, Contains, AllPairs}
 use Rattle.mv_model.specs.declared.shape.Kind.TheVariants as kind
 use Rattle.mv_model.specs.declared.value.Value.{Value}
 use Rattle.mv_model.specs.declared.value.Value.TheVariants as value
@@ -43,7 +43,8 @@ CommitsAreCounted = (words : List ℕ) → length (logical_state words).commits 
 -- a commit created exactly the rows whose word for their creator is its number
 abbrev pub CreatedAreStamped : Type 0
 CreatedAreStamped = (words : List ℕ) (number table row : ℕ) → IsCommit words number
-    → Contains (map (λ created. created.key) (shown_commit words number).created) (row_key table row) ↔ IsStamped created_header words number table row
+    → Contains (map (λ created. created.key) (shown_commit words number).created) (row_key table row)
+    ↔ IsStamped created_header words number table row
 
 -- and ended exactly those whose word for what ended them is its number
 abbrev pub EndedAreStamped : Type 0
@@ -66,7 +67,8 @@ CreatedHaveTheirValues = (words : List ℕ) (number : ℕ) (created : CreatedRow
 -- each list of a commit ascends by table and row
 abbrev pub CommitsAscend : Type 0
 CommitsAscend = (words : List ℕ) (number : ℕ) → IsCommit words number
-    → AllPairs (λ created other. IsBefore created.key other.key) (shown_commit words number).created × AllPairs IsBefore (shown_commit words number).ended
+    → AllPairs (λ created other. IsBefore created.key other.key) (shown_commit words number).created
+    × AllPairs IsBefore (shown_commit words number).ended
 
 -- ── one table ──
 
@@ -76,8 +78,8 @@ CommitsAscend = (words : List ℕ) (number : ℕ) → IsCommit words number
 abbrev pub one_column_block : List ℕ
 one_column_block = 1 ∷ 0 ∷ 116 ∷ 0 ∷ 0 ∷ 0 ∷ 1 ∷ replicate {A = ℕ} 33 0 ++ 1 ∷ 97 ∷ replicate {A = ℕ} 38 0
 
--- A formatted image of one segment with that table alone. Its block is the first slot of page 4, a small page for blocks of
--- 128 words, whose bitmap is 1.
+-- A formatted image of one segment with that table alone. Its block is the first slot of page 4, a small page for
+-- blocks of 128 words, whose bitmap is 1.
 unfoldable pub one_table_image : List ℕ
 one_table_image =
     (8 ∷ 8 ∷ 8 ∷ 8 ∷ 6 ∷ replicate {A = ℕ} 507 0)
@@ -163,12 +165,14 @@ TwoCommitsAreShown =
       } ∷ [];
       commits =
           record {
-            created = record { key = row_key 0 0; values = value.Int (pos 7) ∷ value.Int (pos 0) ∷ value.Text [] ∷ [] } ∷ [];
+            created =
+                record { key = row_key 0 0; values = value.Int (pos 7) ∷ value.Int (pos 0) ∷ value.Text [] ∷ [] } ∷ [];
             ended = [];
           }
           ∷ record {
             created =
-                record { key = row_key 0 1; values = value.Int (negsuc 2) ∷ value.Int (pos 5) ∷ value.Text [] ∷ [] } ∷ [];
+                record { key = row_key 0 1; values = value.Int (negsuc 2) ∷ value.Int (pos 5) ∷ value.Text [] ∷ [] }
+                ∷ [];
             ended = row_key 0 0 ∷ [];
           }
           ∷ [];

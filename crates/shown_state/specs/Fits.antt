@@ -26,7 +26,8 @@ spoken_for words = map (slice_index words) (owner_places words) ++ map (lane_blo
 abbrev pub later_slots : List ℕ → ℕ → List ℕ
 later_slots words column =
     let next = dictionary_length words column + 1 in
-    map (place_of words (dictionary_header column)) (range_with_len next (capacity words (dictionary_header column) - next))
+    map (place_of words (dictionary_header column))
+    (range_with_len next (capacity words (dictionary_header column) - next))
 
 -- they are 0
 unfoldable pub later_slot_rule : Rule
@@ -65,7 +66,8 @@ ender words table row = array_word words (ended_header (table_block words table)
 abbrev pub CreatorFits : List ℕ → ℕ → ℕ → Type 0
 CreatorFits words table row =
     (creator words table row ≡ 0)
-    ⊎ ((row < used_up words table) × ((creator words table row ≡ no_commit) ⊎ (creator words table row ≤ last_commit words)))
+    ⊎ ((row < used_up words table)
+    × ((creator words table row ≡ no_commit) ⊎ (creator words table row ≤ last_commit words)))
     ⊎ ((last_commit words < creator words table row) × IsUndecided words 1 table row)
 
 -- a commit ended the row, and it isn't before the one that created it
@@ -78,7 +80,8 @@ pub record IsEnded (words : List ℕ) (table row : ℕ) : Type 0 where
 -- no commit ended the row, or one did; or opening takes that back
 abbrev pub EnderFits : List ℕ → ℕ → ℕ → Type 0
 EnderFits words table row =
-    (ender words table row ≡ 0) ⊎ IsEnded words table row ⊎ ((last_commit words < ender words table row) × IsUndecided words 2 table row)
+    (ender words table row ≡ 0) ⊎ IsEnded words table row
+    ⊎ ((last_commit words < ender words table row) × IsUndecided words 2 table row)
 
 -- a row that a commit created has a value in the column
 pub record HasValue (words : List ℕ) (row column : ℕ) : Type 0 where
@@ -93,9 +96,11 @@ pub record RowsFit (words : List ℕ) (table : ℕ) : Type 0 where
   pub ended_room : used_up words table ≤ capacity words (ended_header (table_block words table))
   pub begun : All (λ column. since_of words column ≤ slice_index words (high_at (table_block words table)))
       (columns_of words (table_block words table))
-  pub created : (row : ℕ) → row < capacity words (created_header (table_block words table)) → CreatorFits words table row
+  pub created : (row : ℕ) → row < capacity words (created_header (table_block words table))
+      → CreatorFits words table row
   pub ended : (row : ℕ) → row < capacity words (ended_header (table_block words table)) → EnderFits words table row
-  pub values : (row : ℕ) → row < capacity words (created_header (table_block words table)) → 1 ≤ creator words table row → creator words table row ≤ last_commit words
+  pub values : (row : ℕ) → row < capacity words (created_header (table_block words table)) → 1 ≤ creator words table row
+      → creator words table row ≤ last_commit words
       → All (HasValue words row) (columns_with words (table_block words table) row)
 
 -- ── all of it ──
@@ -105,6 +110,11 @@ pub record RowsFit (words : List ℕ) (table : ℕ) : Type 0 where
 pub record BeginsFirst (words : List ℕ) (table : ℕ) : Type 0 where
   pub no_extension : slice_index words (first_extension_at (table_block words table)) ≡ 0
   pub all_rows : All (λ column. since_of words column ≡ 0) (columns_of words (table_block words table))
+
+-- in an image of version 1 this holds of each table
+abbrev pub BeginFirst : List ℕ → Type 0
+BeginFirst words =
+    is_first_version words ≡ true → (table : ℕ) → table < table_count words → BeginsFirst words table
 
 -- An image fits together: the rules that every image keeps, owner words apart, and the logs; each live block is spoken
 -- for; the rules of an image at rest that no power cut breaks; the rows of each table; and in version 1 what version 2
@@ -123,4 +133,4 @@ pub record Fits (words : List ℕ) : Type 0 where
   pub given_back : Keeps words given_back_rule
   pub names : Keeps words distinct_name_rule
   pub rows : (table : ℕ) → table < table_count words → RowsFit words table
-  pub first : is_first_version words ≡ true → (table : ℕ) → table < table_count words → BeginsFirst words table
+  pub first : BeginFirst words

@@ -17,4 +17,5 @@ pub record MayMend (words : List ℕ) (lane : ℕ) : Type 0 where
   pub rules : KeepsLaneRules words
   pub lane_is : lane < 16
   pub lanes : 704 ≤ length words
-  pub owner_is : slice_index words (lane_op_at lane) ≡ 2 → IsOwnerPlace words (place_in (slice_index words (lane_dest_at lane)))
+  pub owner_is : slice_index words (lane_op_at lane) ≡ 2
+      → IsOwnerPlace words (place_in (slice_index words (lane_dest_at lane)))

@@ -92,8 +92,12 @@ created_row words table row =
 abbrev pub commit_of : List ℕ → ℕ → WriteSet
 commit_of words number =
     record {
-      created = flat_map (λ table. map (created_row words table) (rows_stamped words (created_header (table_block words table)) number)) (below (table_count words));
-      ended = flat_map (λ table. map (λ row. record { table = table; row = row }) (rows_stamped words (ended_header (table_block words table)) number)) (below (table_count words));
+      created =
+          flat_map (λ table. map (created_row words table)
+          (rows_stamped words (created_header (table_block words table)) number)) (below (table_count words));
+      ended =
+          flat_map (λ table. map (λ row. record { table = table; row = row })
+          (rows_stamped words (ended_header (table_block words table)) number)) (below (table_count words));
     }
 
 -- the published tables and the commits, with no transaction open

@@ -16,25 +16,32 @@ pub record BeginsPages (words : List ℕ) (page : ℕ) : Type 0 where
   pub no_small : is_small_page words page ≡ false
   pub clean : (k : ℕ) → 0 < k → 16 + k < descriptor_of words page → descriptor_of words (page + k) ≡ 0
 
--- A lane at work: the word by which the block is owned is null or has the block's pointer, a block that begins a page has
--- its pages for itself, and only what is unfinished is freed.
+-- A lane at work: the word by which the block is owned is null or has the block's pointer, a block that begins a page
+-- has its pages for itself, and only what is unfinished is freed.
 pub record LaneFits (words : List ℕ) (lane : ℕ) : Type 0 where
-  pub owner : (slice_index words (lane_owner words lane) ≡ 0) ⊎ (slice_index words (lane_owner words lane) ≡ lane_block words lane)
-  pub pages : place_in (lane_block words lane) % 512 ≡ 0 → BeginsPages words (page_of (place_in (lane_block words lane)))
+  pub owner : (slice_index words (lane_owner words lane) ≡ 0)
+      ⊎ (slice_index words (lane_owner words lane) ≡ lane_block words lane)
+  pub pages : place_in (lane_block words lane) % 512 ≡ 0
+      → BeginsPages words (page_of (place_in (lane_block words lane)))
   pub frees : slice_index words (lane_op_at lane) ≡ 2 → Contains (unfinished_slots words) (lane_owner words lane)
 
 -- ── splits ──
 
--- A column's split log. A leaf that is still full isn't linked to the new one. A new leaf that is about to be linked goes on
--- where the leaf that was split does. A new leaf without one that is split is the first leaf, or there is none yet; and with
--- one it isn't the first leaf.
+-- A column's split log. A leaf that is still full isn't linked to the new one. A new leaf that is about to be linked
+-- goes on where the leaf that was split does. A new leaf without one that is split is the first leaf, or there is none
+-- yet; and with one it isn't the first leaf.
 pub record SplitFits (words : List ℕ) (column : ℕ) : Type 0 where
-  pub unlinked : slice_index words (split_leaf_at column) ≢ 0 → slice_index words (new_leaf_at column) ≢ 0 → is_full_leaf words (place_in (slice_index words (split_leaf_at column))) ≡ true
-      → slice_index words (next_leaf_at (place_in (slice_index words (split_leaf_at column)))) ≢ slice_index words (new_leaf_at column)
+  pub unlinked : slice_index words (split_leaf_at column) ≢ 0 → slice_index words (new_leaf_at column) ≢ 0
+      → is_full_leaf words (place_in (slice_index words (split_leaf_at column))) ≡ true
+      → slice_index words (next_leaf_at (place_in (slice_index words (split_leaf_at column)))) ≢ slice_index words
+      (new_leaf_at column)
   pub goes_on : is_about_to_link words column ≡ true
-      → slice_index words (next_leaf_at (place_in (slice_index words (new_leaf_at column)))) ≡ slice_index words (next_leaf_at (place_in (slice_index words (split_leaf_at column))))
-  pub bitmap : is_about_to_link words column ≡ true → slice_index words (place_in (slice_index words (new_leaf_at column))) < 2 ^ 48
-  pub first : slice_index words (split_leaf_at column) ≡ 0 → slice_index words (new_leaf_at column) ≢ 0 → slice_index words (first_leaf_at column) ≢ 0
+      → slice_index words (next_leaf_at (place_in (slice_index words (new_leaf_at column))))
+      ≡ slice_index words (next_leaf_at (place_in (slice_index words (split_leaf_at column))))
+  pub bitmap : is_about_to_link words column ≡ true
+      → slice_index words (place_in (slice_index words (new_leaf_at column))) < 2 ^ 48
+  pub first : slice_index words (split_leaf_at column) ≡ 0 → slice_index words (new_leaf_at column) ≢ 0
+      → slice_index words (first_leaf_at column) ≢ 0
       → slice_index words (first_leaf_at column) ≡ slice_index words (new_leaf_at column)
   pub later : slice_index words (split_leaf_at column) ≢ 0 → slice_index words (new_leaf_at column) ≢ 0
       → slice_index words (first_leaf_at column) ≢ slice_index words (new_leaf_at column)
@@ -44,10 +51,11 @@ pub record SplitFits (words : List ℕ) (column : ℕ) : Type 0 where
 -- the pages of a big block that is unfinished, and that opening will free
 abbrev pub SlotFits : List ℕ → ℕ → Type 0
 SlotFits words at =
-    slice_index words at ≢ 0 → place_in (slice_index words at) % 512 ≡ 0 → BeginsPages words (page_of (place_in (slice_index words at)))
+    slice_index words at ≢ 0 → place_in (slice_index words at) % 512 ≡ 0
+    → BeginsPages words (page_of (place_in (slice_index words at)))
 
--- The logs of an image: of each lane at work, no two of which have one block, of what is unfinished, and of each column's
--- splits.
+-- The logs of an image: of each lane at work, no two of which have one block, of what is unfinished, and of each
+-- column's splits.
 pub record LogsFit (words : List ℕ) : Type 0 where
   pub lanes : All (LaneFits words) (busy_lanes words)
   pub blocks : AllPairs (λ lane other. lane_block words lane ≢ lane_block words other) (busy_lanes words)

@@ -25,7 +25,8 @@ use Rattle.shown_state.specs.LogicalState.{created_rows, row_bound}
 
 -- the mark of the block that begins at a place without the block: the descriptor of its head or its bit is cleared
 abbrev pub cleared_mark : List ℕ → ℕ → ℕ
-cleared_mark words block = unmarked block (slice_index words (descriptor_at (page_of block))) (slice_index words (mark_at block))
+cleared_mark words block =
+    unmarked block (slice_index words (descriptor_at (page_of block))) (slice_index words (mark_at block))
 
 -- the block is allocated no longer
 abbrev pub release_part : List ℕ → ℕ → Part
@@ -43,14 +44,17 @@ lane_parts words lane op owner block =
 
 abbrev pub lane_mending : ℕ → Mending
 lane_mending lane words =
-    lane_parts words lane (slice_index words (lane_op_at lane)) (place_in (slice_index words (lane_dest_at lane))) (slice_index words (lane_block_at lane))
+    lane_parts words lane (slice_index words (lane_op_at lane)) (place_in (slice_index words (lane_dest_at lane)))
+    (slice_index words (lane_block_at lane))
 
 -- ── split logs ──
 
 -- the used slots of a leaf in the order of their keys
 abbrev pub slots_by_key : List ℕ → Bool → ℕ → List ℕ
 slots_by_key words texts leaf =
-    sorted_by (λ slot other. key_below words texts (slice_index words (key_at leaf slot)) (slice_index words (key_at leaf other))) (leaf_slots words leaf)
+    sorted_by (λ slot other.
+    key_below words texts (slice_index words (key_at leaf slot)) (slice_index words (key_at leaf other)))
+    (leaf_slots words leaf)
 
 -- a pair of one leaf is copied to a slot of another
 abbrev pub copy_slot : List ℕ → ℕ → List ℕ → ℕ → ℕ → Part
@@ -84,7 +88,8 @@ halving_parts words texts leaf new =
 
 -- the new leaf, by its pointer, is linked behind the leaf that was split, and the split log is closed
 abbrev pub linking_parts : ℕ → ℕ → ℕ → List Part
-linking_parts column leaf new = one_store (next_leaf_at leaf) new ∷ one_store (new_leaf_at column) 0 ∷ one_store (split_leaf_at column) 0 ∷ []
+linking_parts column leaf new =
+    one_store (next_leaf_at leaf) new ∷ one_store (new_leaf_at column) 0 ∷ one_store (split_leaf_at column) 0 ∷ []
 
 -- the first leaf of an empty tree, by its pointer
 abbrev pub first_leaf_parts : ℕ → ℕ → List Part
@@ -99,8 +104,11 @@ abbrev pub split_parts : List ℕ → ℕ → ℕ → ℕ → List Part
 split_parts words column leaf new =
     (if (leaf == 0) && (new == 0) then []
     else if new == 0 then one_store (split_leaf_at column) 0 ∷ []
-    else if leaf == 0 then (if slice_index words (first_leaf_at column) == 0 then first_leaf_parts column new else one_store (new_leaf_at column) 0 ∷ [])
-    else (if is_full_leaf words (place_in leaf) then halving_parts words (is_text words column) (place_in leaf) (place_in new) else [])
+    else if leaf == 0 then
+    (if slice_index words (first_leaf_at column) == 0
+    then first_leaf_parts column new else one_store (new_leaf_at column) 0 ∷ [])
+    else (if is_full_leaf words (place_in leaf)
+    then halving_parts words (is_text words column) (place_in leaf) (place_in new) else [])
     ++ linking_parts column (place_in leaf) new)
 
 -- what is done to a column by its number, counted over all tables
@@ -108,7 +116,10 @@ abbrev pub at_column : (List ℕ → ℕ → List Part) → ℕ → Mending
 at_column parts number words = option_map_or (parts words) (slice_get (all_columns words) number) []
 
 abbrev pub split_mending : ℕ → Mending
-split_mending number = at_column (λ words column. split_parts words column (slice_index words (split_leaf_at column)) (slice_index words (new_leaf_at column))) number
+split_mending number =
+    at_column (λ words column.
+    split_parts words column (slice_index words (split_leaf_at column))
+    (slice_index words (new_leaf_at column))) number
 
 -- ── blocks of a table or a text that was being added ──
 
@@ -144,7 +155,8 @@ undo_entry words word =
     let ended = place_of words (ended_header block) (entry_row word) in
     let last = slice_index words last_at in
     (if entry_kind word == 1
-    then (if (slice_index words created == 0) || nat_lt last (slice_index words created) then one_store created no_commit else [])
+    then (if (slice_index words created == 0) || nat_lt last (slice_index words created)
+    then one_store created no_commit else [])
     else (if nat_lt last (slice_index words ended) then one_store ended 0 else []))
 
 -- a table's bound on stamped rows is raised above the rows that an object's transaction created
@@ -153,8 +165,8 @@ raise_bound words object table =
     let at = high_at (table_block words table) in
     store at (max (slice_index words at) (row_bound (created_rows words object table)))
 
--- An open transaction that isn't committed is taken back, and its object closed: the stamps in the order of the entries,
--- and then the bounds table by table.
+-- An open transaction that isn't committed is taken back, and its object closed: the stamps in the order of the
+-- entries, and then the bounds table by table.
 abbrev pub undo_parts : List ℕ → ℕ → List Part
 undo_parts words object =
     (flat_map (undo_entry words) (entries words object) ++ map (raise_bound words object) (below (table_count words)))
@@ -162,11 +174,13 @@ undo_parts words object =
     ∷ []
 
 abbrev pub undo_mending : ℕ → Mending
-undo_mending object words = (if is_open words object && (commit_word words object == 0) then undo_parts words object else [])
+undo_mending object words =
+    (if is_open words object && (commit_word words object == 0) then undo_parts words object else [])
 
 -- the object of a transaction that is committed is closed
 abbrev pub close_mending : ℕ → Mending
-close_mending object words = (if is_open words object && not (commit_word words object == 0) then one_store (state_at object) 0 ∷ [] else [])
+close_mending object words =
+    (if is_open words object && not (commit_word words object == 0) then one_store (state_at object) 0 ∷ [] else [])
 
 -- an object's entries and commit word are cleared
 abbrev pub clear_mending : ℕ → Mending

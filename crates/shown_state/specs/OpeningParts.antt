@@ -32,7 +32,8 @@ pub record FitsStill (words image : List ℕ) : Type 0 where
   pub fits : Fits image
   pub shows : logical_state image ≡ logical_state words
 
--- A step of opening keeps what fits, from its start through each power cut to its end, and then what it mends is mended.
+-- A step of opening keeps what fits, from its start through each power cut to its end, and then what it mends is
+-- mended.
 pub record StepKeeps (After : List ℕ → Type 0) (mending : Mending) (words : List ℕ) : Type 0 where
   pub plan : IsPlan (length words) (needed_parts words (mending words))
   pub cuts : EachCut (FitsStill words) (needed_parts words (mending words)) words

@@ -11,8 +11,8 @@ pub fn commits_law()
     ensures ascend { CommitsAscend }
 {}
 
-/// Two images, written out word by word, and the states that they show: one table without rows, and the same table with two
-/// rows, two commits and two columns in extensions, of which one begins at the second row and one above both.
+/// Two images, written out word by word, and the states that they show: one table without rows, and the same table with
+/// two rows, two commits and two columns in extensions, of which one begins at the second row and one above both.
 pub fn worked_images_law()
     ensures one_table { OneTableIsShown }
     ensures two_commits { TwoCommitsAreShown }

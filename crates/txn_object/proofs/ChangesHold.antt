@@ -30,7 +30,7 @@ use Rattle.txn_object.proofs.Keeping.{kept_object, kept_segments, kept_extension
 use Rattle.txn_object.proofs.Retire.{retire_plan, retire_each, retire_ends, retire_shows, retire_free}
 use Rattle.txn_object.proofs.Spared.{keeps_frame, keeps_places, keeps_shows, keeps_object, keeps_packed}
 use Rattle.txn_object.proofs.OwnedSegments.{has_segments, may_extend}
-use Rattle.txn_object.proofs.Sound.{sound_extends}
+use Rattle.txn_object.proofs.Sound.{intact_extends}
 use Rattle.txn_object.proofs.Whole.{extension_shown, apart_from_blocks}
 
 -- a plan of one store leaves the words as they were, or with the store
@@ -246,7 +246,7 @@ place_object words object is has =
     apart_from_blocks words object (omega (arith, number)) (omega (arith, size)) is.whole has
 
 pub sound_extension : (words : List ℕ) (index : HeapIndex) (object : ℕ) → object < OBJECTS → IsSound words → IsIndexOf words index → MayPlanExtension words index object
-sound_extension words index object number sound is = sound_extends words sound object (omega (arith, number)) index is
+sound_extension words index object number sound is = intact_extends words sound.intact object (omega (arith, number)) index is
 
 pub own_segments : (words : List ℕ) (object : ℕ) → IsObjectOf words object → HasSegments words object
 own_segments words object is = let number = is.number in has_segments words object is.rules is.owners (omega (arith, number))
