@@ -17,7 +17,7 @@ use Rattle.pm_model.specs.Device.{AreWords}
 use Rattle.image_layout.specs.Fixed.{table_slot_at}
 use Rattle.image_layout.specs.Places.{below, packed_byte}
 use Rattle.image_layout.specs.Records.{column_name_at, table_name_at}
-use Rattle.image_layout.specs.Tables.{table_count, table_block, table_blocks, columns_of, column_count, column_record, extension_count, extension_pointer_at, is_first_version}
+use Rattle.image_layout.specs.Tables.{NamesExtension, table_count, table_block, table_blocks, columns_of, column_count, column_record, extension_count, extension_pointer_at, is_first_version}
 use Rattle.image_layout.specs.Checks.{Check, check}
 use Rattle.image_layout.specs.EntryRules.{is_letter, is_name_byte, is_padded_name_byte, column_name_checks, kind_check, name_checks, name_rule, since_checks}
 use Rattle.image_layout.specs.SoundRules.{IsIntact, same_name, name_place_checks, table_name_checks, distinct_name_rule}
@@ -28,7 +28,7 @@ use Rattle.image_layout.proofs.OwnersApart.{all_from}
 use Rattle.image_layout.proofs.TableParts.{first_inner}
 use Rattle.image_layout.proofs.TableSlots.{extension_in_image, one_extension, one_table, table_in_image}
 use Rattle.shown_state.specs.LogicalState.{name_at, column_of}
-use Rattle.catalog.specs.Entries.{KeepsTableRules, NamesExtension, ShowsTable}
+use Rattle.catalog.specs.Entries.{KeepsTableRules, ShowsTable}
 use Rattle.catalog.proofs.Lists.{mapped_count}
 use Rattle.catalog.proofs.Names.{some_byte}
 use Rattle.catalog.proofs.ReadBack.{mapped_at}
@@ -285,7 +285,7 @@ module _ (words : List ℕ) (fit : AreWords words) (whole : length words % 32768
       (λ first. absurd (let none = first_inner words block first in omega (arith, here, none)))
       (λ second.
       let points = one_extension words keeps.table_count keeps.table_slots table extension lt second here in
-      record { pointer = points.pointer; in_image = extension_in_image words (get_or words (extension_pointer_at words block extension) 0) whole points })
+      record { pointer = points.pointer; within = extension_in_image words (get_or words (extension_pointer_at words block extension) 0) whole points })
       (cases_Bool (is_first_version words))
 
   distinct : All Holds (name_place_checks words [] (map column_name_at (columns_of words block)))
@@ -305,7 +305,7 @@ module _ (words : List ℕ) (fit : AreWords words) (whole : length words % 32768
         records = record {
           most = points.most;
           inner = points.inner;
-          in_image = table_in_image words (get_or words (table_slot_at table) 0) whole points;
+          within = table_in_image words (get_or words (table_slot_at table) 0) whole points;
           extensions = named_extension;
         };
         name = name_is_name words (table_name_at (table_block words table)) table_padded;

@@ -1,13 +1,13 @@
 -- What a catalog says of the published tables, and which words it stands for.
-use Rattle.std.specs.Prelude.{ℕ, ◌+◌, ◌<◌, ◌≤◌, IsTrue, Option, List, All, length, map, slice_index}
+use Rattle.std.specs.Prelude.{ℕ, ◌<◌, IsTrue, Option, List, All, map, slice_index}
 use Rattle.std.specs.List.{position_from}
 use Rattle.mv_model.specs.declared.shape.Column.{Column}
 use Rattle.mv_model.specs.Name.{is_name, same_name}
 use Rattle.mv_model.specs.Shape.{is_shape}
 use Rattle.image_layout.specs.Fixed.{table_slot_at}
 use Rattle.image_layout.specs.Places.{below, is_pointer}
-use Rattle.image_layout.specs.Records.{column_name_at, extension_words, table_name_at, table_words}
-use Rattle.image_layout.specs.Tables.{table_count, table_block, columns_of, column_count, column_record, extension_count, extension_of, extension_pointer_at, inner_columns}
+use Rattle.image_layout.specs.Records.{column_name_at, table_name_at}
+use Rattle.image_layout.specs.Tables.{HasRecords, table_count, table_block, columns_of, column_count, column_record}
 use Rattle.image_layout.specs.Checks.{Keeps}
 use Rattle.image_layout.specs.EntryRules.{table_count_rule, table_slot_rule, name_rule}
 use Rattle.image_layout.specs.SoundRules.{distinct_name_rule}
@@ -45,18 +45,6 @@ published_table words table =
 
 abbrev pub published_tables : List ℕ → List CatalogTable
 published_tables words = map (published_table words) (below (table_count words))
-
--- a pointer to an extension names words of the image
-pub record NamesExtension (words : List ℕ) (block extension : ℕ) : Type 0 where
-  pub pointer : IsTrue (is_pointer words (slice_index words (extension_pointer_at words block extension)))
-  pub in_image : extension_of words block extension + extension_words ≤ length words
-
--- A table has at most 16 columns. The first of them stand in its block, and the others in extensions.
-pub record HasRecords (words : List ℕ) (block : ℕ) : Type 0 where
-  pub most : column_count words block ≤ 16
-  pub inner : inner_columns words block ≤ column_count words block
-  pub in_image : block + table_words (inner_columns words block) ≤ length words
-  pub extensions : (extension : ℕ) → extension < extension_count words block → NamesExtension words block extension
 
 -- A published table's pointer names a block of the image, which shows a name and columns as a table has them.
 pub record ShowsTable (words : List ℕ) (table : ℕ) : Type 0 where

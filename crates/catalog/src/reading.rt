@@ -4,9 +4,9 @@ ghost use Rattle.mv_model.specs.Name.{is_name};
 ghost use Rattle.mv_model.specs.Shape.{is_shape};
 ghost use Rattle.image_layout.specs.Places.{below, packed_byte};
 ghost use Rattle.image_layout.specs.Records.{column_name_at};
-ghost use Rattle.image_layout.specs.Tables.{columns_of, column_count as count_of_columns, column_record, extension_count, extension_of, extension_pointer_at, inner_columns as columns_in_block};
+ghost use Rattle.image_layout.specs.Tables.{HasRecords, columns_of, column_count as count_of_columns, column_record, extension_count, extension_of, extension_pointer_at, inner_columns as columns_in_block};
 ghost use Rattle.shown_state.specs.LogicalState.{column_of, name_at};
-ghost use Rattle.catalog.specs.Entries.{HasRecords, KeepsTableRules, ShowsTable, published_table, published_tables};
+ghost use Rattle.catalog.specs.Entries.{KeepsTableRules, ShowsTable, published_table, published_tables};
 
 use crate::tables::{Catalog, Table};
 use arrayvec::ArrayVec;

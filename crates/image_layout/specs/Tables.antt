@@ -1,10 +1,10 @@
 -- The published tables of an image, and their columns. A table is named by the place of its block, and a column by the
 -- place of its record.
-use Rattle.std.specs.Prelude.{ℕ, zero, suc, ◌-◌, Bool, ◌==◌, nat_lt, nat_le, if◌then◌else◌, List, [], ◌∷◌, map, filter, slice_index}
+use Rattle.std.specs.Prelude.{ℕ, zero, suc, ◌+◌, ◌-◌, ◌<◌, ◌≤◌, Bool, ◌==◌, nat_lt, nat_le, if◌then◌else◌, IsTrue, List, [], ◌∷◌, map, filter, length, slice_index}
 use Rattle.std.specs.List.{flat_map}
 use Rattle.image_layout.specs.Fixed.{table_count_at, table_slot_at, version_at}
-use Rattle.image_layout.specs.Places.{below, place_in}
-use Rattle.image_layout.specs.Records.{codes_header, column_at, columns_at, created_header, dictionary_header, ended_header, extension_column_at, first_extension_at, inner_columns_at, kind_at, since_at}
+use Rattle.image_layout.specs.Places.{below, is_pointer, place_in}
+use Rattle.image_layout.specs.Records.{codes_header, column_at, columns_at, created_header, dictionary_header, ended_header, extension_column_at, extension_words, first_extension_at, inner_columns_at, kind_at, since_at, table_words}
 
 abbrev pub table_count : List ℕ → ℕ
 table_count words = slice_index words table_count_at
@@ -56,6 +56,22 @@ column_record words block column =
 
 abbrev pub columns_of : List ℕ → ℕ → List ℕ
 columns_of words block = map (column_record words block) (below (column_count words block))
+
+-- a pointer to an extension names words of the image
+pub record NamesExtension (words : List ℕ) (block extension : ℕ) : Type 0 where
+  pub pointer : IsTrue (is_pointer words (slice_index words (extension_pointer_at words block extension)))
+  pub within : extension_of words block extension + extension_words ≤ length words
+
+-- A table has at most 16 columns. The first of them stand in its block, and the others in extensions.
+pub record HasRecords (words : List ℕ) (block : ℕ) : Type 0 where
+  -- no table has more columns
+  pub most : column_count words block ≤ 16
+  -- those of the block are the first of them
+  pub inner : inner_columns words block ≤ column_count words block
+  -- the words of the block are words of the image
+  pub within : block + table_words (inner_columns words block) ≤ length words
+  -- and so are those of each extension
+  pub extensions : (extension : ℕ) → extension < extension_count words block → NamesExtension words block extension
 
 -- the columns of all published tables
 abbrev pub all_columns : List ℕ → List ℕ

@@ -4,12 +4,12 @@ use Rattle.std.specs.Prelude.{None}
 use Rattle.std.proofs.lemmas.Bool.{and_parts, cases_Bool, cond-true, cond-false, leb-true, ltb-true}
 use Rattle.image_layout.specs.Places.{below, place_in, is_pointer, is_pointer_to, is_in_segment}
 use Rattle.image_layout.specs.Records.{extension_words}
-use Rattle.image_layout.specs.Tables.{extension_count, extension_of, extension_pointer_at, is_first_version}
+use Rattle.image_layout.specs.Tables.{NamesExtension, extension_count, extension_of, extension_pointer_at, is_first_version}
 use Rattle.image_layout.specs.Checks.{first_failing}
 use Rattle.image_layout.specs.EntryRules.{extension_checks, extension_pointer_check, last_pointer_check}
 use Rattle.image_layout.proofs.Faults.{all_hold}
 use Rattle.image_layout.proofs.TableParts.{first_inner}
-use Rattle.image_rules.specs.Parts.{NamesExtension, pointer_checks}
+use Rattle.image_rules.specs.Parts.{pointer_checks}
 use Rattle.image_rules.proofs.Firsts.{map_holds, none-append}
 
 module _ (words : List ℕ) (block : ℕ) where

@@ -1,12 +1,12 @@
 -- Parts of the rules, which a function of their own tries.
-use Rattle.std.specs.Prelude.{ℕ, zero, suc, ◌+◌, ◌<◌, ◌≤◌, IsTrue, List, [], ◌∷◌, ◌++◌, map, length, slice_index}
+use Rattle.std.specs.Prelude.{ℕ, zero, suc, ◌+◌, ◌<◌, ◌≤◌, List, [], ◌∷◌, ◌++◌, map, length, slice_index}
 use Rattle.std.specs.List.{flat_map}
 use Rattle.image_layout.specs.Fixed.{commit_word_at, state_at}
-use Rattle.image_layout.specs.Places.{below, is_null_or_pointer_to, is_pointer}
+use Rattle.image_layout.specs.Places.{below, is_null_or_pointer_to}
 use Rattle.image_layout.specs.Records.{column_name_at, extension_words, table_name_at, table_words}
 use Rattle.image_layout.specs.Objects.{entry_places, segment_pointer_at}
 use Rattle.image_layout.specs.Arrays.{array_rule}
-use Rattle.image_layout.specs.Tables.{array_headers, column_count, extension_count, extension_of, extension_pointer_at, inner_columns}
+use Rattle.image_layout.specs.Tables.{NamesExtension, array_headers, column_count, extension_count, extension_pointer_at, inner_columns}
 use Rattle.image_layout.specs.Checks.{Check, Rule, check}
 use Rattle.image_layout.specs.EntryRules.{column_name_checks, extension_pointer_check, is_segment_pointer, kind_check, name_checks}
 use Rattle.image_layout.specs.SoundRules.{zero_check}
@@ -33,12 +33,7 @@ pub record IsTableHead (words : List ℕ) (block : ℕ) : Type 0 where
   pub most : column_count words block ≤ 16
   pub within : block + table_words (inner_columns words block) ≤ length words
 
--- a pointer to an extension names words of the image
-pub record NamesExtension (words : List ℕ) (block extension : ℕ) : Type 0 where
-  pub pointer : IsTrue (is_pointer words (slice_index words (extension_pointer_at words block extension)))
-  pub within : extension_of words block extension + extension_words ≤ length words
-
--- and so do the pointers to the extensions of its other columns
+-- and the pointers to the extensions of its other columns name words of the image too
 pub record IsTableBlock (words : List ℕ) (block : ℕ) : Type 0 where
   pub fixed : 32768 ≤ length words
   pub some : 1 ≤ inner_columns words block
