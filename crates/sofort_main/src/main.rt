@@ -35,8 +35,8 @@ fn no_source(alloc: Global) -> CleanSource {
     CleanSource::new(Vec::new(alloc))
 }
 
-/// Runs the command over these streams and standard output.
-fn run_over<I: Source, S: Source, J: Sink>(
+/// Runs the command over these streams, with standard output.
+fn with_output<I: Source, S: Source, J: Sink>(
     rt: &HostRuntime,
     alloc: Global,
     words: &[String],
@@ -48,8 +48,8 @@ fn run_over<I: Source, S: Source, J: Sink>(
     run(alloc, words, image, input, image_out, &mut out)
 }
 
-/// Runs the command over these sources and the file that it writes.
-fn run_into<I: Source, S: Source>(
+/// Runs the command over these sources, with the file that it writes.
+fn with_image_out<I: Source, S: Source>(
     rt: &HostRuntime,
     alloc: Global,
     words: &[String],
@@ -58,16 +58,16 @@ fn run_into<I: Source, S: Source>(
     input: &mut S,
 ) -> Status {
     match claim {
-        None => run_over(rt, alloc, words, image, input, &mut CleanSink::new()),
+        None => with_output(rt, alloc, words, image, input, &mut CleanSink::new()),
         Some(claim) => {
             let mut file = EdgeSink::new(WholeFile::new(FolderFile::new(rt, claim)));
-            run_over(rt, alloc, words, image, input, &mut file)
+            with_output(rt, alloc, words, image, input, &mut file)
         }
     }
 }
 
-/// Runs the command over this image and the other files that it names.
-fn run_image<I: Source>(
+/// Runs the command over this image, with the script that it names. A path that can't be opened is a read fault.
+fn with_input<I: Source>(
     rt: &HostRuntime,
     alloc: Global,
     words: &[String],
@@ -76,16 +76,16 @@ fn run_image<I: Source>(
     image: &mut I,
 ) -> Status {
     match path_of(paths, Role::Input) {
-        None => run_into(rt, alloc, words, claim, image, &mut no_source(alloc)),
+        None => with_image_out(rt, alloc, words, claim, image, &mut no_source(alloc)),
         Some(path) => match File::open(rt, path) {
-            Ok(file) => run_into(rt, alloc, words, claim, image, &mut EdgeSource::new(file)),
+            Ok(file) => with_image_out(rt, alloc, words, claim, image, &mut EdgeSource::new(file)),
             Err(_) => Status::ReadFault,
         },
     }
 }
 
-/// Runs the command over the files that it names. A path that can't be opened for reading is a read fault.
-fn run_claimed(
+/// Runs the command with the image that it names. A path that can't be opened is a read fault.
+fn with_image(
     rt: &HostRuntime,
     alloc: Global,
     words: &[String],
@@ -93,36 +93,38 @@ fn run_claimed(
     claim: Option<&Claim>,
 ) -> Status {
     match path_of(paths, Role::Image) {
-        None => run_image(rt, alloc, words, paths, claim, &mut no_source(alloc)),
+        None => with_input(rt, alloc, words, paths, claim, &mut no_source(alloc)),
         Some(path) => match File::open(rt, path) {
             Ok(file) => {
                 let mut image = EdgeSource::new(file);
-                run_image(rt, alloc, words, paths, claim, &mut image)
+                with_input(rt, alloc, words, paths, claim, &mut image)
             }
             Err(_) => Status::ReadFault,
         },
     }
 }
 
-/// Claims the file that the command writes, and runs the command. A file that another run has can't be opened.
-fn run_files(rt: &HostRuntime, alloc: Global, words: &[String], paths: &Paths) -> Status {
+/// Runs the command with a claim on the file that it writes, where it writes one. A file that another run has can't be
+/// opened.
+fn with_claim(rt: &HostRuntime, alloc: Global, words: &[String], paths: &Paths) -> Status {
     let Some(path) = path_of(paths, Role::ImageOut) else {
-        return run_claimed(rt, alloc, words, paths, None);
+        return with_image(rt, alloc, words, paths, None);
     };
     match Claim::of(rt, path) {
-        Ok(claim) => run_claimed(rt, alloc, words, paths, Some(&claim)),
+        Ok(claim) => with_image(rt, alloc, words, paths, Some(&claim)),
         Err(ClaimError::Busy) => Status::ReadFault,
         Err(ClaimError::NoMemory) => Status::NoMemory,
     }
 }
 
-fn run_words(rt: &HostRuntime, alloc: Global, words: &[String]) -> Status {
+/// Runs the command of these words, with the paths that they name.
+fn with_paths(rt: &HostRuntime, alloc: Global, words: &[String]) -> Status {
     match read_words(alloc, words) {
-        Ok(Command::Run { paths, .. }) => run_files(rt, alloc, words, &paths),
+        Ok(Command::Run { paths, .. }) => with_claim(rt, alloc, words, &paths),
         Err(WordsError::Usage) => {
             let mut image = no_source(alloc);
             let mut input = no_source(alloc);
-            run_over(
+            with_output(
                 rt,
                 alloc,
                 words,
@@ -157,7 +159,7 @@ fn report(rt: &HostRuntime, alloc: Global, status: Status) -> io::Result<()> {
 fn main(rt: HostRuntime) -> ExitCode {
     let alloc = rt.alloc();
     let status = match command_words(&rt, alloc) {
-        Ok(words) => run_words(&rt, alloc, &words),
+        Ok(words) => with_paths(&rt, alloc, &words),
         Err(error) => status_of_words(error),
     };
     let _ = report(&rt, alloc, status);
