@@ -1,3 +1,4 @@
 mod FreshWords
 mod OneTransaction
 mod FirstTable
+mod WorkedImages

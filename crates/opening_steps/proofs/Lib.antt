@@ -3,6 +3,7 @@ pub mod Closer
 pub mod Closing
 pub mod Fitting
 pub mod Idle
+pub mod Intact
 pub mod Keys
 pub mod LastNumber
 pub mod LeafHomes

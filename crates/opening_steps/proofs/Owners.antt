@@ -16,7 +16,7 @@ use Rattle.image_layout.specs.EntryRules.{arrays_rule, tree_rule}
 use Rattle.image_layout.specs.SoundRules.{code_rule}
 use Rattle.image_layout.proofs.Members.{below-Contains, Contains-below, Contains-map, map-Contains}
 use Rattle.image_layout.proofs.TableParts.{first_inner}
-use Rattle.shown_state.specs.Fits.{BeginsFirst}
+use Rattle.shown_state.specs.Fits.{BeginFirst, BeginsFirst}
 use Rattle.shown_state.specs.Reads.{SameTree}
 use Rattle.opening_steps.proofs.Structure.{of_extension, of_header, SamePlaces, same_tree}
 use Rattle.shown_state.proofs.Alike.{map_alike, map_below, flat_map_alike, flat_map_below, filter_alike}
@@ -26,10 +26,10 @@ use Rattle.opening_steps.proofs.Objects.{ready_same, pointer_same, named_same}
 use Rattle.shown_state.proofs.SameLeaves.{stored_same, values_same}
 use Rattle.opening_steps.proofs.Keys.{key_length_same}
 use Rattle.shown_state.proofs.SameValueRules.{column_among}
-use Rattle.opening_steps.proofs.Versions.{BeginsPlain, VersionGoesOn, first_is, raised, same_version, second_is, version_is}
+use Rattle.opening_steps.proofs.Versions.{VersionGoesOn, first_is, raised, same_version, second_is, version_is}
 use Rattle.opening_steps.proofs.TreeRules.{dictionary_slots_same, slot_known}
 
-module _ (old new : List ℕ) (same : SamePlaces old new) (version : VersionGoesOn old new) (plain : BeginsPlain old) (arrays : Keeps old arrays_rule) (trees : Keeps old tree_rule) (codes : Keeps old code_rule) where
+module _ (old new : List ℕ) (same : SamePlaces old new) (version : VersionGoesOn old new) (plain : BeginFirst old) (arrays : Keeps old arrays_rule) (trees : Keeps old tree_rule) (codes : Keeps old code_rule) where
   abbrev tree : (column : ℕ) → Contains (all_columns old) column → SameTree old new column
   tree = same_tree old new same
 

@@ -14,13 +14,13 @@ use Rattle.image_layout.proofs.Faults.{Holds}
 use Rattle.image_layout.proofs.Members.{below-Contains, Contains-below, Contains-cons, Contains-flat_map, Contains-here, Contains-map, Contains-nil, Contains-there, flat_map-Contains}
 use Rattle.image_layout.proofs.OwnersApart.{all_from}
 use Rattle.image_layout.proofs.TableParts.{first_inner}
-use Rattle.shown_state.specs.Fits.{BeginsFirst}
+use Rattle.shown_state.specs.Fits.{BeginFirst, BeginsFirst}
 use Rattle.std.proofs.lemmas.List.Elements.{All-contains, Contains-append_cases}
 use Rattle.shown_state.proofs.Alike.{map_below}
 use Rattle.shown_state.proofs.SameTreeRules.{null_or_pointer_same, pointer_is_same, pointer_to_same}
 use Rattle.opening_steps.proofs.Structure.{of_extension, SamePlaces}
 use Rattle.opening_steps.proofs.Tables.{block_same, column_count_same, count_same, extension_count_same, extension_pointer_same, inner_same, slot_same}
-use Rattle.opening_steps.proofs.Versions.{BeginsPlain, VersionGoesOn, first_is, raised, same_version, second_is, version_is}
+use Rattle.opening_steps.proofs.Versions.{VersionGoesOn, first_is, raised, same_version, second_is, version_is}
 
 module _ (old new : List ℕ) (same : SamePlaces old new) where
   module _ (table : ℕ) (published : table < table_count old) where
@@ -92,7 +92,7 @@ module _ (old new : List ℕ) (same : SamePlaces old new) where
         (Contains-cons (last_pointer_check old block) c [] one))
         (Contains-append_cases (map (extension_pointer_check old block) (below (extension_count old block))) (last_pointer_check old block ∷ []) c is)
 
-    extensions_hold : VersionGoesOn old new → BeginsPlain old → ((c : Check) → Contains (extension_checks old block) c → Holds c) → (c : Check) → Contains (extension_checks new block) c → Holds c
+    extensions_hold : VersionGoesOn old new → BeginFirst old → ((c : Check) → Contains (extension_checks old block) c → Holds c) → (c : Check) → Contains (extension_checks new block) c → Holds c
     unfolding extension_checks
     extensions_hold (same_version version) plain was c is =
         was c (subst (λ (cs : List Check). Contains cs c)
@@ -103,7 +103,7 @@ module _ (old new : List ℕ) (same : SamePlaces old new) where
         (subst (λ (cs : List Check). Contains cs c) (cond-false (is_first_version new) [] (pointer_checks new) (second_is new two) ∙ pointers_same) is)
 
   -- The slot at the count is null, and those behind it are.
-  module _ (version : VersionGoesOn old new) (plain : BeginsPlain old) (counted : table_count old ≤ 32) (keeps : Keeps old table_slot_rule) (null : (table : ℕ) → table_count old ≤ table → table < 32 → get_or new (table_slot_at table) 0 ≡ 0) where
+  module _ (version : VersionGoesOn old new) (plain : BeginFirst old) (counted : table_count old ≤ 32) (keeps : Keeps old table_slot_rule) (null : (table : ℕ) → table_count old ≤ table → table < 32 → get_or new (table_slot_at table) 0 ≡ 0) where
     published_holds : (table : ℕ) → table < table_count old → (c : Check) → Contains (table_slot_checks new table) c → Holds c
     unfolding table_slot_rule
     published_holds table lt c is =

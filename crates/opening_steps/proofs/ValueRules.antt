@@ -19,11 +19,12 @@ use Rattle.image_layout.proofs.Faults.{Holds}
 use Rattle.image_layout.proofs.Members.{Contains-below, Contains-cons, Contains-flat_map, Contains-here, Contains-there, Contains-map, Contains-nil, below-Contains, flat_map-Contains, map-Contains}
 use Rattle.image_layout.proofs.OwnersApart.{all_from}
 use Rattle.image_layout.proofs.TableParts.{column_among as record_among}
+use Rattle.shown_state.specs.Fits.{BeginFirst}
 use Rattle.opening_steps.proofs.Structure.{of_head, SamePlaces}
 use Rattle.shown_state.proofs.Alike.{all_members, any_members, map_below}
 use Rattle.shown_state.proofs.SameTables.{created_is, ended_is, table_of_block}
 use Rattle.shown_state.proofs.SameValueRules.{SameName, name_byte, column_among}
-use Rattle.opening_steps.proofs.Versions.{BeginsPlain, VersionGoesOn, first_is, raised, same_version, version_is}
+use Rattle.opening_steps.proofs.Versions.{VersionGoesOn, first_is, raised, same_version, version_is}
 use Rattle.opening_steps.proofs.Tables.{count_same, block_same, blocks_same, table_word, block_columns, column_count_same, column_word, inner_same, kind_same, record_same, since_same, capacity_same}
 
 -- what is asked of a byte, by the first one, itself and the one before it
@@ -122,7 +123,7 @@ module _ (old new : List ℕ) (same : SamePlaces old new) where
   abbrev table_checks : List ℕ → ℕ → List Check
   table_checks words block = name_checks words (table_name_at block) ++ flat_map (column_name_checks words block) (below (column_count words block))
 
-  module _ (version : VersionGoesOn old new) (plain : BeginsPlain old) (keeps : Keeps old name_rule) where
+  module _ (version : VersionGoesOn old new) (plain : BeginFirst old) (keeps : Keeps old name_rule) where
     module _ (table : ℕ) (lt : table < table_count old) where
       abbrev block : ℕ
       block = table_block old table

@@ -1,5 +1,10 @@
 // The laws of the steps of opening.
-ghost use Rattle.shown_state.specs.StepLaws.{ClearsKeep, ClosesKeep, LastKeeps, VersionKeeps};
+ghost use Rattle.std.specs.Prelude.{ℕ, List};
+ghost use Rattle.image_layout.specs.SoundRules.{IsIntact};
+ghost use Rattle.shown_state.specs.Fits.{BeginFirst};
+ghost use Rattle.shown_state.specs.Mending.{version_mending};
+ghost use Rattle.shown_state.specs.OpeningParts.{IsImage, StepKeeps};
+ghost use Rattle.shown_state.specs.StepLaws.{AreMended, ClearsKeep, ClosesKeep, LastKeeps, VersionKeeps};
 
 /// A law for proofs: each cut of the storing of the last commit's number keeps what fits together, and shows the same;
 /// behind it the last number is that of the last commit.
@@ -14,8 +19,11 @@ pub fn objects_law()
     ensures clears { ClearsKeep }
 {}
 
-/// A law for proofs: so does each cut of the step from version 1 to version 2, behind which the version is 2: first the block
-/// of each table says how many columns stand in it, which are all, and then the version is stored.
+/// A law for proofs: so does each cut of the step from version 1 to version 2, behind which the version is 2: first the
+/// block of each table says how many columns stand in it, which are all, and then the version is stored. An intact
+/// image meets what this asks, one of version 1 where what version 2 reads beside it is 0.
 pub fn version_step_law()
-    ensures { VersionKeeps }
+    ensures step { VersionKeeps }
+    ensures intact { (words : List ℕ) → IsImage words → IsIntact words → BeginFirst words
+        → StepKeeps AreMended version_mending words }
 {}

@@ -1,0 +1,118 @@
+-- The worked images keep the rules: that of two commits and two later columns is sound, and that of one table is intact
+-- as version 1 has it.
+use Rattle.std.proofs.Common.{◌≡◌, ℕ, zero, suc, ◌<◌, true, [], refl, arith}
+use Rattle.std.proofs.lemmas.List.Elements.{All-cons, All-nil}
+use Rattle.image_layout.specs.EntryRules.{KeepsEntryRules, arrays_rule, entries_rule, extension_checks, last_rule, magic_rule, name_checks, name_rule, object_rule, objects_rule, since_checks, table_count_rule, table_slot_rule, text_key_checks, text_key_rule, tree_checks, tree_rule, version_rule}
+use Rattle.image_layout.specs.HeapRules.{bitmap_rule, descriptor_rule, lane_rule, reserved_rule}
+use Rattle.image_layout.specs.SoundRules.{IsIntact, IsSound, closed_rule, code_rule, column_slots, distinct_name_rule, fingerprint_checks, fingerprint_rule, given_back_rule, idle_rule, latest_version_rule, order_rule, owned_rule, owner_rule, row_code_rule, single_owner_rule, spare_slot_rule, split_log_rule, stamp_checks, stamp_rule, text_checks, text_rule}
+use Rattle.image_layout.specs.Arrays.{array_rule, chunk_of}
+use Rattle.image_layout.specs.Blocks.{blocks_of_page, is_inside}
+use Rattle.image_layout.specs.Objects.{entry_places}
+use Rattle.image_layout.specs.Owners.{column_owners, extension_owners, owner_words}
+use Rattle.image_layout.specs.Tables.{column_record, inner_columns, is_first_version, since_of}
+use Rattle.image_layout.specs.Trees.{key_below, key_fingerprint, leaf_list, leaf_pairs, leaves_from, pairs, text_at}
+use Rattle.image_layout.proofs.Faults.{all_hold}
+use Rattle.shown_state.specs.CommitLaws.{one_table_image, two_commit_image}
+use Rattle.shown_state.specs.Fits.{BeginFirst}
+use Rattle.law_instances.specs.FirstVersion.{first_version_image}
+
+two_commits_keep : KeepsEntryRules two_commit_image
+unfolding two_commit_image extension_checks table_slot_rule arrays_rule tree_checks tree_rule name_checks since_checks name_rule text_key_checks text_key_rule object_rule objects_rule entries_rule reserved_rule descriptor_rule bitmap_rule lane_rule idle_rule split_log_rule closed_rule owner_rule single_owner_rule owned_rule order_rule fingerprint_checks fingerprint_rule column_slots code_rule text_checks text_rule spare_slot_rule stamp_checks stamp_rule row_code_rule given_back_rule distinct_name_rule latest_version_rule chunk_of array_rule is_inside blocks_of_page entry_places column_owners extension_owners owner_words inner_columns column_record leaves_from leaf_list leaf_pairs text_at key_below pairs key_fingerprint
+two_commits_keep = record {
+  magic = record { checks = all_hold (magic_rule two_commit_image) refl };
+  version = record { checks = all_hold (version_rule two_commit_image) refl };
+  last = record { checks = all_hold (last_rule two_commit_image) refl };
+  table_count = record { checks = all_hold (table_count_rule two_commit_image) refl };
+  reserved = record { checks = all_hold (reserved_rule two_commit_image) refl };
+  descriptors = record { checks = all_hold (descriptor_rule two_commit_image) refl };
+  bitmaps = record { checks = all_hold (bitmap_rule two_commit_image) refl };
+  lanes = record { checks = all_hold (lane_rule two_commit_image) refl };
+  table_slots = record { checks = all_hold (table_slot_rule two_commit_image) refl };
+  arrays = record { checks = all_hold (arrays_rule two_commit_image) refl };
+  trees = record { checks = all_hold (tree_rule two_commit_image) refl };
+  names = record { checks = all_hold (name_rule two_commit_image) refl };
+  text_keys = record { checks = all_hold (text_key_rule two_commit_image) refl };
+  objects = record { checks = all_hold (objects_rule two_commit_image) refl };
+  entries = record { checks = all_hold (entries_rule two_commit_image) refl };
+}
+
+two_commits_are_intact : IsIntact two_commit_image
+unfolding two_commit_image extension_checks table_slot_rule arrays_rule tree_checks tree_rule name_checks since_checks name_rule text_key_checks text_key_rule object_rule objects_rule entries_rule reserved_rule descriptor_rule bitmap_rule lane_rule idle_rule split_log_rule closed_rule owner_rule single_owner_rule owned_rule order_rule fingerprint_checks fingerprint_rule column_slots code_rule text_checks text_rule spare_slot_rule stamp_checks stamp_rule row_code_rule given_back_rule distinct_name_rule latest_version_rule chunk_of array_rule is_inside blocks_of_page entry_places column_owners extension_owners owner_words inner_columns column_record leaves_from leaf_list leaf_pairs text_at key_below pairs key_fingerprint
+two_commits_are_intact = record {
+  entry = two_commits_keep;
+  idle = record { checks = all_hold (idle_rule two_commit_image) refl };
+  split_logs = record { checks = all_hold (split_log_rule two_commit_image) refl };
+  closed = record { checks = all_hold (closed_rule two_commit_image) refl };
+  owners = record { checks = all_hold (owner_rule two_commit_image) refl };
+  single_owners = record { checks = all_hold (single_owner_rule two_commit_image) refl };
+  owned = record { checks = all_hold (owned_rule two_commit_image) refl };
+  order = record { checks = all_hold (order_rule two_commit_image) refl };
+  fingerprints = record { checks = all_hold (fingerprint_rule two_commit_image) refl };
+  codes = record { checks = all_hold (code_rule two_commit_image) refl };
+  texts = record { checks = all_hold (text_rule two_commit_image) refl };
+  spare_slots = record { checks = all_hold (spare_slot_rule two_commit_image) refl };
+  stamps = record { checks = all_hold (stamp_rule two_commit_image) refl };
+  row_codes = record { checks = all_hold (row_code_rule two_commit_image) refl };
+  given_back = record { checks = all_hold (given_back_rule two_commit_image) refl };
+  names = record { checks = all_hold (distinct_name_rule two_commit_image) refl };
+}
+
+pub two_commits_are_sound : IsSound two_commit_image
+unfolding two_commit_image latest_version_rule
+two_commits_are_sound = record {
+  intact = two_commits_are_intact;
+  latest = record { checks = all_hold (latest_version_rule two_commit_image) refl };
+}
+
+first_version_keeps : KeepsEntryRules first_version_image
+unfolding one_table_image first_version_image extension_checks table_slot_rule arrays_rule tree_checks tree_rule name_checks since_checks name_rule text_key_checks text_key_rule object_rule objects_rule entries_rule reserved_rule descriptor_rule bitmap_rule lane_rule idle_rule split_log_rule closed_rule owner_rule single_owner_rule owned_rule order_rule fingerprint_checks fingerprint_rule column_slots code_rule text_checks text_rule spare_slot_rule stamp_checks stamp_rule row_code_rule given_back_rule distinct_name_rule latest_version_rule chunk_of array_rule is_inside blocks_of_page entry_places column_owners extension_owners owner_words inner_columns column_record leaves_from leaf_list leaf_pairs text_at key_below pairs key_fingerprint
+first_version_keeps = record {
+  magic = record { checks = all_hold (magic_rule first_version_image) refl };
+  version = record { checks = all_hold (version_rule first_version_image) refl };
+  last = record { checks = all_hold (last_rule first_version_image) refl };
+  table_count = record { checks = all_hold (table_count_rule first_version_image) refl };
+  reserved = record { checks = all_hold (reserved_rule first_version_image) refl };
+  descriptors = record { checks = all_hold (descriptor_rule first_version_image) refl };
+  bitmaps = record { checks = all_hold (bitmap_rule first_version_image) refl };
+  lanes = record { checks = all_hold (lane_rule first_version_image) refl };
+  table_slots = record { checks = all_hold (table_slot_rule first_version_image) refl };
+  arrays = record { checks = all_hold (arrays_rule first_version_image) refl };
+  trees = record { checks = all_hold (tree_rule first_version_image) refl };
+  names = record { checks = all_hold (name_rule first_version_image) refl };
+  text_keys = record { checks = all_hold (text_key_rule first_version_image) refl };
+  objects = record { checks = all_hold (objects_rule first_version_image) refl };
+  entries = record { checks = all_hold (entries_rule first_version_image) refl };
+}
+
+pub first_version_is_intact : IsIntact first_version_image
+unfolding one_table_image first_version_image extension_checks table_slot_rule arrays_rule tree_checks tree_rule name_checks since_checks name_rule text_key_checks text_key_rule object_rule objects_rule entries_rule reserved_rule descriptor_rule bitmap_rule lane_rule idle_rule split_log_rule closed_rule owner_rule single_owner_rule owned_rule order_rule fingerprint_checks fingerprint_rule column_slots code_rule text_checks text_rule spare_slot_rule stamp_checks stamp_rule row_code_rule given_back_rule distinct_name_rule latest_version_rule chunk_of array_rule is_inside blocks_of_page entry_places column_owners extension_owners owner_words inner_columns column_record leaves_from leaf_list leaf_pairs text_at key_below pairs key_fingerprint
+first_version_is_intact = record {
+  entry = first_version_keeps;
+  idle = record { checks = all_hold (idle_rule first_version_image) refl };
+  split_logs = record { checks = all_hold (split_log_rule first_version_image) refl };
+  closed = record { checks = all_hold (closed_rule first_version_image) refl };
+  owners = record { checks = all_hold (owner_rule first_version_image) refl };
+  single_owners = record { checks = all_hold (single_owner_rule first_version_image) refl };
+  owned = record { checks = all_hold (owned_rule first_version_image) refl };
+  order = record { checks = all_hold (order_rule first_version_image) refl };
+  fingerprints = record { checks = all_hold (fingerprint_rule first_version_image) refl };
+  codes = record { checks = all_hold (code_rule first_version_image) refl };
+  texts = record { checks = all_hold (text_rule first_version_image) refl };
+  spare_slots = record { checks = all_hold (spare_slot_rule first_version_image) refl };
+  stamps = record { checks = all_hold (stamp_rule first_version_image) refl };
+  row_codes = record { checks = all_hold (row_code_rule first_version_image) refl };
+  given_back = record { checks = all_hold (given_back_rule first_version_image) refl };
+  names = record { checks = all_hold (distinct_name_rule first_version_image) refl };
+}
+
+pub first_version_begins : BeginFirst first_version_image
+unfolding one_table_image first_version_image inner_columns column_record
+first_version_begins first zero lt = record { no_extension = refl; all_rows = All-cons (λ column. since_of first_version_image column ≡ 0) 2096 [] refl (All-nil (λ column. since_of first_version_image column ≡ 0)) }
+first_version_begins first (suc table) lt = absurd (no_more table lt)
+  where
+    no_more : (table : ℕ) → suc table < 1 → ⊥
+    no_more table lt = omega (arith, lt)
+
+pub first_version_is_first : is_first_version first_version_image ≡ true
+unfolding one_table_image first_version_image
+first_version_is_first = refl
