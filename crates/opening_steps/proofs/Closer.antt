@@ -27,7 +27,7 @@ use Rattle.opening_steps.proofs.Fitting.{still_fits, TransactionsFit}
 use Rattle.opening_steps.proofs.Idle.{ChangesOnly, KeepsStamps, MayChange, places}
 use Rattle.opening_steps.proofs.Objects.{entry_places_same}
 use Rattle.opening_steps.proofs.ReadRules.{objects_kept}
-use Rattle.opening_steps.proofs.Rows.{RowsAlike, rows_same}
+use Rattle.opening_steps.proofs.Rows.{rows_alike, rows_same, StampsSame}
 use Rattle.opening_steps.proofs.Showing.{StampsAlike, state_same}
 use Rattle.opening_steps.proofs.Structure.{SamePlaces, same_tree}
 use Rattle.opening_steps.proofs.Tables.{block_same, place_same}
@@ -252,10 +252,10 @@ module _ (old new : List ℕ) (changed : ℕ → Type 0) (image : IsImage old) (
         let least = last_least old in
         ⊎_elim (λ e. omega (arith, e, low, last, least)) (λ e. omega (arith, e)) (closer.commits object lt));
     entries = entries_kept;
-    rows = λ table lt. rows_same old new same table lt (alike table lt) fits.entry.arrays (λ column is. values_same old new fits.entry.trees column is (same_tree old new same column is)) (fits.rows table lt);
+    rows = λ table lt. rows_same old new same table lt fits.entry.arrays (rows_alike old new same table lt fits.entry.arrays (alike table lt)) (λ column is. values_same old new fits.entry.trees column is (same_tree old new same column is)) (fits.rows table lt);
   }
     where
-      alike : (table : ℕ) → table < table_count old → RowsAlike old new table
+      alike : (table : ℕ) → table < table_count old → StampsSame old new table
       alike table lt = record {
         last = last_same;
         used = let high = high_same table lt in let bound = undecided_bound_same table in omega (arith, high, bound);

@@ -16,10 +16,13 @@ pub mod ReadRules
 pub mod Rows
 pub mod Showing
 pub mod Slots
+pub mod StampWords
 pub mod Steps
 pub mod Structure
 pub mod Tables
 pub mod TreeRules
+pub mod Undoing
+pub mod Undone
 pub mod ValueRules
 pub mod VersionStep
 pub mod VersionWords

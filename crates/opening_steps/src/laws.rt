@@ -4,12 +4,26 @@ ghost use Rattle.image_layout.specs.SoundRules.{IsIntact};
 ghost use Rattle.shown_state.specs.Fits.{BeginFirst};
 ghost use Rattle.shown_state.specs.Mending.{version_mending};
 ghost use Rattle.shown_state.specs.OpeningParts.{IsImage, StepKeeps};
-ghost use Rattle.shown_state.specs.StepLaws.{AreMended, ClearsKeep, ClosesKeep, LastKeeps, VersionKeeps};
+ghost use Rattle.shown_state.specs.StepLaws.{
+  AreMended,
+  ClearsKeep,
+  ClosesKeep,
+  LastKeeps,
+  UndosKeep,
+  VersionKeeps,
+};
 
 /// A law for proofs: each cut of the storing of the last commit's number keeps what fits together, and shows the same;
 /// behind it the last number is that of the last commit.
 pub fn last_number_law()
     ensures { LastKeeps }
+{}
+
+/// A law for proofs: so does each cut of the taking back of a transaction that is open and has no commit word. First, in
+/// any order, the stamps that are no commit's are taken back and the bounds of tables rise above the rows that it
+/// created; then its object is closed, behind which it isn't undecided.
+pub fn undoing_law()
+    ensures { UndosKeep }
 {}
 
 /// A law for proofs: so does each cut of the closing of the object of a committed transaction, and of the clearing of

@@ -9,10 +9,11 @@
 //! 1. the image still fits together, and shows the same state;
 //! 2. at the end, what the step mends is mended.
 //!
-//! Calls, in the order of the steps: `last_number_law` (the last commit number), `objects_law` (closing and clearing of
-//! transaction objects), `version_step_law` (from version 1 to version 2). The other steps have no law yet.
+//! Calls, in the order of the steps: `last_number_law` (the last commit number), `undoing_law` (transactions that no
+//! commit has decided), `objects_law` (closing and clearing of transaction objects), `version_step_law` (from version 1
+//! to version 2). The steps before these, of lanes, splits, the table slot and texts, have no law yet.
 #![tactic(auto)]
 
 mod laws;
 
-pub use laws::{last_number_law, objects_law, version_step_law};
+pub use laws::{last_number_law, objects_law, undoing_law, version_step_law};
