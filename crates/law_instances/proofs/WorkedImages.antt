@@ -1,20 +1,23 @@
--- The worked images keep the rules: that of two commits and two later columns is sound, and that of one table is intact
--- as version 1 has it.
-use Rattle.std.proofs.Common.{◌≡◌, ℕ, zero, suc, ◌<◌, true, [], refl, arith}
+-- Images that are written out keep the rules: that of two commits and two later columns is sound, and that of version 1
+-- is intact.
+use Rattle.std.proofs.Common.{◌≡◌, ℕ, zero, suc, ◌<◌, [], length, refl, arith}
+use Rattle.std.specs.Prelude.{Some}
 use Rattle.std.proofs.lemmas.List.Elements.{All-cons, All-nil}
 use Rattle.image_layout.specs.EntryRules.{KeepsEntryRules, arrays_rule, entries_rule, extension_checks, last_rule, magic_rule, name_checks, name_rule, object_rule, objects_rule, since_checks, table_count_rule, table_slot_rule, text_key_checks, text_key_rule, tree_checks, tree_rule, version_rule}
 use Rattle.image_layout.specs.HeapRules.{bitmap_rule, descriptor_rule, lane_rule, reserved_rule}
-use Rattle.image_layout.specs.SoundRules.{IsIntact, IsSound, closed_rule, code_rule, column_slots, distinct_name_rule, fingerprint_checks, fingerprint_rule, given_back_rule, idle_rule, latest_version_rule, order_rule, owned_rule, owner_rule, row_code_rule, single_owner_rule, spare_slot_rule, split_log_rule, stamp_checks, stamp_rule, text_checks, text_rule}
+use Rattle.image_layout.specs.SoundRules.{IsIntact, IsSound, fault, closed_rule, code_rule, column_slots, distinct_name_rule, fingerprint_checks, fingerprint_rule, given_back_rule, idle_rule, latest_version_rule, order_rule, owned_rule, owner_rule, row_code_rule, single_owner_rule, spare_slot_rule, split_log_rule, stamp_checks, stamp_rule, text_checks, text_rule}
 use Rattle.image_layout.specs.Arrays.{array_rule, chunk_of}
 use Rattle.image_layout.specs.Blocks.{blocks_of_page, is_inside}
 use Rattle.image_layout.specs.Objects.{entry_places}
 use Rattle.image_layout.specs.Owners.{column_owners, extension_owners, owner_words}
-use Rattle.image_layout.specs.Tables.{column_record, inner_columns, is_first_version, since_of}
+use Rattle.image_layout.specs.Tables.{column_record, inner_columns, since_of}
 use Rattle.image_layout.specs.Trees.{key_below, key_fingerprint, leaf_list, leaf_pairs, leaves_from, pairs, text_at}
 use Rattle.image_layout.proofs.Faults.{all_hold}
-use Rattle.shown_state.specs.CommitLaws.{one_table_image, two_commit_image}
+use Rattle.shown_state.specs.CommitLaws.{two_commit_image}
 use Rattle.shown_state.specs.Fits.{BeginFirst}
-use Rattle.law_instances.specs.FirstVersion.{first_version_image}
+use Rattle.law_instances.specs.FirstVersion.{first_version_image, OneRowIsShown}
+use Rattle.shown_state.specs.LogicalState.{logical_state, name_at}
+use Rattle.shown_state.specs.OpeningParts.{IsImage}
 
 two_commits_keep : KeepsEntryRules two_commit_image
 unfolding two_commit_image extension_checks table_slot_rule arrays_rule tree_checks tree_rule name_checks since_checks name_rule text_key_checks text_key_rule object_rule objects_rule entries_rule reserved_rule descriptor_rule bitmap_rule lane_rule idle_rule split_log_rule closed_rule owner_rule single_owner_rule owned_rule order_rule fingerprint_checks fingerprint_rule column_slots code_rule text_checks text_rule spare_slot_rule stamp_checks stamp_rule row_code_rule given_back_rule distinct_name_rule latest_version_rule chunk_of array_rule is_inside blocks_of_page entry_places column_owners extension_owners owner_words inner_columns column_record leaves_from leaf_list leaf_pairs text_at key_below pairs key_fingerprint
@@ -65,7 +68,7 @@ two_commits_are_sound = record {
 }
 
 first_version_keeps : KeepsEntryRules first_version_image
-unfolding one_table_image first_version_image extension_checks table_slot_rule arrays_rule tree_checks tree_rule name_checks since_checks name_rule text_key_checks text_key_rule object_rule objects_rule entries_rule reserved_rule descriptor_rule bitmap_rule lane_rule idle_rule split_log_rule closed_rule owner_rule single_owner_rule owned_rule order_rule fingerprint_checks fingerprint_rule column_slots code_rule text_checks text_rule spare_slot_rule stamp_checks stamp_rule row_code_rule given_back_rule distinct_name_rule latest_version_rule chunk_of array_rule is_inside blocks_of_page entry_places column_owners extension_owners owner_words inner_columns column_record leaves_from leaf_list leaf_pairs text_at key_below pairs key_fingerprint
+unfolding first_version_image extension_checks table_slot_rule arrays_rule tree_checks tree_rule name_checks since_checks name_rule text_key_checks text_key_rule object_rule objects_rule entries_rule reserved_rule descriptor_rule bitmap_rule lane_rule idle_rule split_log_rule closed_rule owner_rule single_owner_rule owned_rule order_rule fingerprint_checks fingerprint_rule column_slots code_rule text_checks text_rule spare_slot_rule stamp_checks stamp_rule row_code_rule given_back_rule distinct_name_rule latest_version_rule chunk_of array_rule is_inside blocks_of_page entry_places column_owners extension_owners owner_words inner_columns column_record leaves_from leaf_list leaf_pairs text_at key_below pairs key_fingerprint
 first_version_keeps = record {
   magic = record { checks = all_hold (magic_rule first_version_image) refl };
   version = record { checks = all_hold (version_rule first_version_image) refl };
@@ -85,7 +88,7 @@ first_version_keeps = record {
 }
 
 pub first_version_is_intact : IsIntact first_version_image
-unfolding one_table_image first_version_image extension_checks table_slot_rule arrays_rule tree_checks tree_rule name_checks since_checks name_rule text_key_checks text_key_rule object_rule objects_rule entries_rule reserved_rule descriptor_rule bitmap_rule lane_rule idle_rule split_log_rule closed_rule owner_rule single_owner_rule owned_rule order_rule fingerprint_checks fingerprint_rule column_slots code_rule text_checks text_rule spare_slot_rule stamp_checks stamp_rule row_code_rule given_back_rule distinct_name_rule latest_version_rule chunk_of array_rule is_inside blocks_of_page entry_places column_owners extension_owners owner_words inner_columns column_record leaves_from leaf_list leaf_pairs text_at key_below pairs key_fingerprint
+unfolding first_version_image extension_checks table_slot_rule arrays_rule tree_checks tree_rule name_checks since_checks name_rule text_key_checks text_key_rule object_rule objects_rule entries_rule reserved_rule descriptor_rule bitmap_rule lane_rule idle_rule split_log_rule closed_rule owner_rule single_owner_rule owned_rule order_rule fingerprint_checks fingerprint_rule column_slots code_rule text_checks text_rule spare_slot_rule stamp_checks stamp_rule row_code_rule given_back_rule distinct_name_rule latest_version_rule chunk_of array_rule is_inside blocks_of_page entry_places column_owners extension_owners owner_words inner_columns column_record leaves_from leaf_list leaf_pairs text_at key_below pairs key_fingerprint
 first_version_is_intact = record {
   entry = first_version_keeps;
   idle = record { checks = all_hold (idle_rule first_version_image) refl };
@@ -106,13 +109,26 @@ first_version_is_intact = record {
 }
 
 pub first_version_begins : BeginFirst first_version_image
-unfolding one_table_image first_version_image inner_columns column_record
+unfolding first_version_image inner_columns column_record
 first_version_begins first zero lt = record { no_extension = refl; all_rows = All-cons (λ column. since_of first_version_image column ≡ 0) 2096 [] refl (All-nil (λ column. since_of first_version_image column ≡ 0)) }
 first_version_begins first (suc table) lt = absurd (no_more table lt)
   where
     no_more : (table : ℕ) → suc table < 1 → ⊥
     no_more table lt = omega (arith, lt)
 
-pub first_version_is_first : is_first_version first_version_image ≡ true
-unfolding one_table_image first_version_image
-first_version_is_first = refl
+-- an image of one segment
+pub first_version_is_image : IsImage first_version_image
+unfolding first_version_image
+first_version_is_image = record { segments = refl; one_or_more = omega (arith, size) }
+  where
+    size : length first_version_image ≡ 32768
+    size = refl
+
+pub first_version_is_shown : OneRowIsShown
+unfolding first_version_image logical_state name_at entry_places chunk_of inner_columns column_record
+first_version_is_shown = refl
+
+-- the rule of the version alone is broken
+pub first_version_is_old : fault first_version_image ≡ Some (record { rule = 31; place = 513 })
+unfolding first_version_image extension_checks table_slot_rule arrays_rule tree_checks tree_rule name_checks since_checks name_rule text_key_checks text_key_rule object_rule objects_rule entries_rule reserved_rule descriptor_rule bitmap_rule lane_rule idle_rule split_log_rule closed_rule owner_rule single_owner_rule owned_rule order_rule fingerprint_checks fingerprint_rule column_slots code_rule text_checks text_rule spare_slot_rule stamp_checks stamp_rule row_code_rule given_back_rule distinct_name_rule latest_version_rule chunk_of array_rule is_inside blocks_of_page entry_places column_owners extension_owners owner_words inner_columns column_record leaves_from leaf_list leaf_pairs text_at key_below pairs key_fingerprint
+first_version_is_old = refl

@@ -1,8 +1,7 @@
 // Laws whose premises are met over a formatted image, or over one that is written out, each the contract of a function that does nothing.
-ghost use Rattle.std.specs.Prelude.{◌≡◌, ℕ, ◌<◌, true, [], ◌∷◌, List};
+ghost use Rattle.std.specs.Prelude.{◌≡◌, ℕ, ◌<◌, Some, [], ◌∷◌, List};
 ghost use Rattle.image_layout.specs.Fresh.{fresh_words};
-ghost use Rattle.image_layout.specs.SoundRules.{IsIntact, IsSound};
-ghost use Rattle.image_layout.specs.Tables.{is_first_version};
+ghost use Rattle.image_layout.specs.SoundRules.{IsIntact, IsSound, fault};
 ghost use Rattle.mv_model.specs.declared.reply.Entry.{Entry as Answered};
 ghost use Rattle.mv_model.specs.declared.shape.Column.{Column};
 ghost use Rattle.mv_model.specs.Consistent.{IsConsistent};
@@ -14,10 +13,11 @@ ghost use Rattle.txn_object.specs.Shown.{MayAddEntry, Shows};
 ghost use Rattle.shown_state.specs.CommitLaws.{two_commit_image};
 ghost use Rattle.shown_state.specs.Fits.{BeginFirst};
 ghost use Rattle.shown_state.specs.LogicalState.{logical_state};
+ghost use Rattle.shown_state.specs.OpeningParts.{IsImage};
 ghost use Rattle.catalog.specs.Changes.{IsCreationOn};
 ghost use Rattle.catalog.specs.Entries.{HasNames, published_tables};
 ghost use Rattle.catalog.specs.Shown.{new_table, shown_table, IsCreated};
-ghost use Rattle.law_instances.specs.FirstVersion.{first_version_image};
+ghost use Rattle.law_instances.specs.FirstVersion.{first_version_image, OneRowIsShown};
 ghost use Rattle.law_instances.specs.FirstTable.{HasRoom, first_table, first_words};
 ghost use Rattle.law_instances.specs.OneTransaction.{IsFresh, first_entry, one_retired};
 ghost use Rattle.law_instances.specs.OneTransaction.{begun_words, entered_words, retired_words};
@@ -66,12 +66,12 @@ pub fn consistency_law()
         IsConsistent (state_after (logical_state (fresh_words segments)) entries) }
 {}
 
-/// Images that are written out keep the rules: that of two commits and two columns in extensions is sound, and that of
-/// one table is intact as version 1 has it, where what version 2 reads beside it is 0. So what the laws of opening's
-/// step to version 2 ask is met.
+/// Images that are written out keep the rules: that of two commits and two columns in extensions is sound; and that of
+/// version 1, which shows a table with a row, breaks none but that of the version, and what version 2 reads beside it is
+/// 0. So what the laws of opening's step to version 2 ask is met.
 pub fn written_images_law()
     ensures sound { IsSound two_commit_image }
-    ensures first { is_first_version first_version_image ≡ true }
-    ensures intact { IsIntact first_version_image }
-    ensures begin { BeginFirst first_version_image }
+    ensures shown { OneRowIsShown }
+    ensures first { fault first_version_image ≡ Some (record { rule = 31; place = 513 }) }
+    ensures intact { IsImage first_version_image × IsIntact first_version_image × BeginFirst first_version_image }
 {}
