@@ -19,8 +19,8 @@ pub fn last_number_law()
     ensures { LastKeeps }
 {}
 
-/// A law for proofs: so does each cut of the taking back of a transaction that is open and has no commit word. First, in
-/// any order, the stamps that are no commit's are taken back and the bounds of tables rise above the rows that it
+/// A law for proofs: so does each cut of the taking back of a transaction that is open and has no commit word. First,
+/// in any order, the stamps that are no commit's are taken back and the bounds of tables rise above the rows that it
 /// created; then its object is closed, behind which it isn't undecided.
 pub fn undoing_law()
     ensures { UndosKeep }

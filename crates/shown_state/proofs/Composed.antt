@@ -1,10 +1,10 @@
 -- The mendings of opening, one after the other: what each of them keeps, all of them keep.
-use Rattle.std.proofs.Common.{◌≡◌, ℕ, zero, suc, ◌+◌, ◌%◌, ◌<◌, Bool, true, false, not, cond, List, [], ◌∷◌, ◌++◌, length, take, drop, map, refl, sym, ◌∙◌, ap, subst, arith}
+use Rattle.std.proofs.Common.{◌≡◌, ℕ, zero, suc, ◌+◌, ◌%◌, ◌<◌, ◌≤◌, Bool, true, false, not, cond, List, [], ◌∷◌, ◌++◌, length, take, drop, map, refl, sym, ◌∙◌, ap, subst, arith}
 use Rattle.std.specs.Prelude.{Option, None, is_none}
 use Rattle.std.specs.List.{range_with_len}
 use Rattle.std.proofs.lemmas.Bool.{false≢true}
 use Rattle.std.proofs.lemmas.List.Elements.{All-nil, All-from_recursion}
-use Rattle.pm_model.specs.Device.{Device}
+use Rattle.pm_model.specs.Device.{Device, IsCrashImage}
 use Rattle.image_layout.specs.Places.{below}
 use Rattle.pm_model.specs.Plans.{Part, Play, IsPlan, EachCut, IsCrashImageWithin, IsTakenBack, finished, run, at_rest}
 use Rattle.pm_model.specs.Needed.{needed_parts, Mending, after_mending}
@@ -36,17 +36,17 @@ mend-on mending words rules = go (needed_parts words (mending words))
     go (part ∷ parts) = ap (λ (fault : Option Fault). record { words = after_mending mending words; stopped = not (is_none fault) }) (entry-none (after_mending mending words) rules)
 
 -- Mendings from these words on: each cut has P, none stops, and their words have R.
-record Opens (P R : List ℕ → Type 0) (list : List Mending) (words : List ℕ) : Type 0 where
+pub record Opens (P R : List ℕ → Type 0) (list : List Mending) (words : List ℕ) : Type 0 where
   pub plan : IsPlan (length words) (parts_of list (going words))
   pub reaches : finished (parts_of list (going words)) words ≡ (mend list (going words)).words
   pub goes_on : (mend list (going words)).stopped ≡ false
   pub cuts : EachCut P (parts_of list (going words)) words
   pub end : R (mend list (going words)).words
 
-opens-none : (P R : List ℕ → Type 0) (words : List ℕ) → P words → R words → Opens P R [] words
+pub opens-none : (P R : List ℕ → Type 0) (words : List ℕ) → P words → R words → Opens P R [] words
 opens-none P R words p r = record { plan = tt; reaches = refl; goes_on = refl; cuts = p; end = r }
 
-opens-next : (P R : List ℕ → Type 0) (mending : Mending) (later : List Mending) (words : List ℕ) → ((image : List ℕ) → P image → KeepsEntryRules image)
+pub opens-next : (P R : List ℕ → Type 0) (mending : Mending) (later : List Mending) (words : List ℕ) → ((image : List ℕ) → P image → KeepsEntryRules image)
     → IsPlan (length words) (needed_parts words (mending words)) → EachCut P (needed_parts words (mending words)) words → Opens P R later (after_mending mending words) → Opens P R (mending ∷ later) words
 opens-next P R mending later words entry plan cuts rest =
     let parts = needed_parts words (mending words) in
@@ -64,7 +64,7 @@ opens-next P R mending later words entry plan cuts rest =
 
 module _ (start : List ℕ) where
   -- an image that is reached
-  record Now (Q : List ℕ → Type 0) (words : List ℕ) : Type 0 where
+  pub record Now (Q : List ℕ → Type 0) (words : List ℕ) : Type 0 where
     pub image : IsImage words
     pub still : FitsStill start words
     pub has : Q words
@@ -76,7 +76,7 @@ module _ (start : List ℕ) where
   entry-of image still = let fits = still.fits in fits.entry
 
   -- one mending that keeps what fits
-  step : (Q S R : List ℕ → Type 0) (mending : Mending) (later : List Mending) (words : List ℕ) → Now Q words
+  pub step : (Q S R : List ℕ → Type 0) (mending : Mending) (later : List Mending) (words : List ℕ) → Now Q words
       → (IsImage words → Fits words → Q words → StepKeeps S mending words)
       → ((next : List ℕ) → Now S next → Opens P R later next) → Opens P R (mending ∷ later) words
   step Q S R mending later words now keeps rest =
@@ -95,7 +95,7 @@ module _ (start : List ℕ) where
       }))
 
   -- a round of mendings
-  round : (Q : ℕ → List ℕ → Type 0) (R : List ℕ → Type 0) (mending : ℕ → Mending) (later : List Mending) (all : ℕ)
+  pub round : (Q : ℕ → List ℕ → Type 0) (R : List ℕ → Type 0) (mending : ℕ → Mending) (later : List Mending) (all : ℕ)
       → ((n : ℕ) (words : List ℕ) → n < all → IsImage words → Fits words → Q n words → StepKeeps (Q (n + 1)) (mending n) words)
       → ((words : List ℕ) → Now (Q all) words → Opens P R later words)
       → (first count : ℕ) → first + count ≡ all → (words : List ℕ) → Now (Q first) words → Opens P R (map mending (range_with_len first count) ++ later) words
@@ -167,20 +167,25 @@ steps_make_opening keep words image fits =
 
 -- ── a cut ──
 
-pub steps_keep_cuts : StepsKeepCuts
-steps_keep_cuts keep words k image whole fits le left_by =
-    let opens = steps_make_opening keep words whole fits in
+-- what each cut of the parts of an opening has, each cut on the device has
+pub each_on_device : (P : List ℕ → Type 0) (words : List ℕ) (k : ℕ) (image : List ℕ) → IsPlan (length words) (opening_parts words) → EachCut P (opening_parts words) words
+    → k ≤ length (opening_plan words) → IsCrashImage (run 0 (take k (opening_plan words)) (at_rest words)) image → P image
+each_on_device P words k image plan cuts le left_by =
     let parts = opening_parts words in
     let play : Play = record { own = λ w. true; session = 0; parts = parts; start = words } in
     let d : Device = run 0 (take k (opening_plan words)) (at_rest words) in
     let cached : length d.cached ≡ length words = ap length (cached-run 0 (take k (opening_plan words)) (at_rest words)) ∙ length-words_after (take k (opening_plan words)) words in
     let durable : length d.durable ≡ length words = length-durable-run 0 (take k (opening_plan words)) (at_rest words) in
-    let begun = plan_begins play (at_rest words) (record { plan = opens.plan; within = λ w hit. refl })
+    let begun = plan_begins play (at_rest words) (record { plan = plan; within = λ w hit. refl })
     (record { cached_size = refl; durable_size = refl; same = λ w own. refl; clean = λ w own. refl }) in
     let playing = plan_plays_on play 0 k (opening_plan words) (at_rest words) begun le in
     let within : IsCrashImageWithin (λ w. true) d image = record { size = left_by.size ∙ durable ∙ sym cached; each = λ w own. left_by.each w } in
     let back : IsTakenBack play image words = record { size = sym (left_by.size ∙ durable); own = λ w own. refl; others = λ w none. absurd (false≢true (sym none)) } in
-    plan_survives_parts (FitsStill words) parts play (0 + k) (drop k (opening_plan words)) d image words playing within back refl opens.cuts
+    plan_survives_parts P parts play (0 + k) (drop k (opening_plan words)) d image words playing within back refl cuts
+
+pub steps_keep_cuts : StepsKeepCuts
+steps_keep_cuts keep words k image whole fits le left_by =
+    let opens = steps_make_opening keep words whole fits in each_on_device (FitsStill words) words k image opens.plan opens.cuts le left_by
 
 -- ── any words ──
 
