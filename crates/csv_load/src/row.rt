@@ -20,7 +20,7 @@ fn read_text(alloc: Global, field: &[u8]) -> Result<Option<Value>, NoMemory>
         return Ok(None);
     }
     match str::from_utf8(field) {
-        Ok(text) => Ok(Some(Value::Text(Text::from(String::from_str(alloc, text)?)))),
+        Ok(text) => Ok(Some(Value::Text(Text::from_str(alloc, text)?))),
         Err(_) => Ok(None),
     }
 }

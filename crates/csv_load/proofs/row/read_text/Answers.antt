@@ -5,7 +5,7 @@ use Rattle.csv_load.proofs.row.read_text.Goals as goal
 
 pub returns-in_ok-from_str-in-Ok : goal.returns-in_ok-from_str-in-Ok
 returns-in_ok-from_str-in-Ok c =
-    ap (λ (text : List ℕ). Some (Text text)) (c.from.ensures ∙ c.in_ok-from_str-in-Ok.ensures.ok ∙ c.in-Ok.ensures.cases.0)
+    ap (λ (text : List ℕ). Some (Text text)) (c.in_ok-from_str-in-Ok.ensures.text ∙ c.in-Ok.ensures.cases.0)
     ∙ sym (text-short c.args.field.now (omega arith) c.in-Ok.ensures.cases.1)
 
 pub returns-in-Err : goal.returns-in-Err
