@@ -15,7 +15,8 @@ pub record IsInUse (d : Device) (index : HeapIndex) : Type 0 where
   pub settled : IsSettled d index
   pub idle : slice_index d.cached (lane_op_at 0) ≡ 0
   pub owned : (w : ℕ) → IsOwner w → slice_index d.cached w ≢ 0 → (block : Block) × OwnsBlock d.cached w block
-  pub apart : (v w : ℕ) → IsOwner v → IsOwner w → v ≢ w → slice_index d.cached v ≢ 0 → slice_index d.cached v ≢ slice_index d.cached w
+  pub apart : (v w : ℕ) → IsOwner v → IsOwner w → v ≢ w → slice_index d.cached v ≢ 0
+      → slice_index d.cached v ≢ slice_index d.cached w
 
 -- each word is durable
 pub record IsAtRest (d : Device) : Type 0 where

@@ -74,8 +74,10 @@ fn free<M: Memory>(
 #[inline(never)]
 fn play_whole<M: Memory>(memory: &mut M, plan: &mut Plan) -> u32
     requires clean { (w : ℕ) → IsClean (M.device memory.old) w }
-    requires planned { (parts : List Part) × (plan.old.left ≡ plan_of parts) × IsPlan (length (M.device memory.old).cached) parts }
-    ensures words { (parts : List Part) → plan.old.left ≡ plan_of parts → IsPlan (length (M.device memory.old).cached) parts →
+    requires planned { (parts : List Part) × (plan.old.left ≡ plan_of parts)
+        × IsPlan (length (M.device memory.old).cached) parts }
+    ensures words { (parts : List Part) → plan.old.left ≡ plan_of parts
+        → IsPlan (length (M.device memory.old).cached) parts →
         (M.device memory.new).cached ≡ finished parts (M.device memory.old).cached }
     ensures clean { (w : ℕ) → IsClean (M.device memory.new) w }
 {
@@ -89,8 +91,8 @@ const MARK: Place = Place(2048);
 
 const OWNER: Place = Place(704);
 
-/// Plays the actions of an allocation on words of 0, and gives how many there are: the lane's part, and four parts of one
-/// store.
+/// Plays the actions of an allocation on words of 0, and gives how many there are: the lane's part, and four parts of
+/// one store.
 pub(crate) fn play_allocation<M: Memory>(memory: &mut M) -> u32
     requires { IsAtRest (M.device memory.old) }
     ensures { IsAtRest (M.device memory.new) }

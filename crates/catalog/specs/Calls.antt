@@ -17,8 +17,8 @@ use Rattle.catalog.specs.declared.error.CreateError.TheVariants.{TableExists, To
 use Rattle.catalog.specs.Creation.{creation_by, created_words, new_block, creation_parts, MayCreate}
 use Rattle.catalog.specs.Entries.{CatalogState, CatalogTable, table_named}
 
--- The heap's rules hold, the index stands for the words, the catalog has as many tables as they have, at most 32, the lane
--- is idle, and the table slot at the count is null.
+-- The heap's rules hold, the index stands for the words, the catalog has as many tables as they have, at most 32, the
+-- lane is idle, and the table slot at the count is null.
 pub record MayPlanCreation (words : List ℕ) (index : HeapIndex) (tables : List CatalogTable) (lane : ℕ) : Type 0 where
   pub rules : KeepsHeapRules words
   pub index_of : IsIndexOf words index
@@ -28,8 +28,8 @@ pub record MayPlanCreation (words : List ℕ) (index : HeapIndex) (tables : List
   pub most : table_count words ≤ 32
   pub slot : table_count words < 32 → slice_index words (table_slot_at (table_count words)) ≡ 0
 
--- A creation is planned: these actions, and a block that begins at this place, chosen as the heap chooses. Once the plan was
--- played, the index stands for the words.
+-- A creation is planned: these actions, and a block that begins at this place, chosen as the heap chooses. Once the
+-- plan was played, the index stands for the words.
 pub record IsCreationPlanned (words : List ℕ) (old new : HeapIndex) (lane : ℕ) (name : List ℕ) (columns : List Column)
     (first : ℕ) (plan : List Action) : Type 0 where
   pub choice : Choice

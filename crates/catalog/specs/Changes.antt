@@ -17,14 +17,15 @@ use Rattle.catalog.specs.Shown.{mended, IsUncreated, IsCreated, MayCreateOn}
 abbrev pub ShowsCreation : Creation → List ℕ → List ℕ → Type 0
 ShowsCreation c base image = IsUncreated base c (mended c.lane image) ⊎ IsCreated base c (mended c.lane image)
 
--- What the words after a creation show: the tables after it, and one live block more. Those steps leave them as they are.
+-- What the words after a creation show: the tables after it, and one live block more. Those steps leave them as they
+-- are.
 pub record EndsCreation (c : Creation) (base words : List ℕ) : Type 0 where
   pub created : IsCreated base c words
   pub gains : GainsOne (live_blocks base) (choice_block c.choice) (live_blocks words)
   pub stays : mended c.lane words ≡ words
 
--- What a creation reads is the same: the table count, the slot behind the one at the count, the op of lane 0, and what the
--- allocation of its block reads. The heap's rules go on to hold.
+-- What a creation reads is the same: the table count, the slot behind the one at the count, the op of lane 0, and what
+-- the allocation of its block reads. The heap's rules go on to hold.
 pub record SameCreationRead (c : Creation) (old new : List ℕ) : Type 0 where
   pub size : length new ≡ length old
   pub count : table_count new ≡ table_count old

@@ -22,8 +22,8 @@ kind_word Text = 2
 abbrev pub column_record : Column → List ℕ
 column_record column = kind_word column.kind ∷ packed_words column.name 3 ++ replicate {A = ℕ} 36 0
 
--- the 40 words before the columns: how many there are, no stamped row, the name, no extension, how many columns stand in the
--- block, which are all, and no chunk yet
+-- the 40 words before the columns: how many there are, no stamped row, the name, no extension, how many columns stand
+-- in the block, which are all, and no chunk yet
 abbrev pub head_record : List ℕ → ℕ → List ℕ
 head_record name columns = columns ∷ 0 ∷ packed_words name 3 ++ 0 ∷ columns ∷ replicate {A = ℕ} 33 0
 
@@ -57,8 +57,8 @@ creation_parts words c = choice_parts words c.choice
 abbrev pub created_words : List ℕ → Creation → List ℕ
 created_words words c = finished (creation_parts words c) words
 
--- The creation may begin: there are fewer than 32 tables, the block may be allocated into the slot at the count, and it has
--- the words that the table needs.
+-- The creation may begin: there are fewer than 32 tables, the block may be allocated into the slot at the count, and it
+-- has the words that the table needs.
 pub record MayCreate (words : List ℕ) (c : Creation) : Type 0 where
   pub count : table_count words < 32
   pub through : IsThrough c.lane (table_slot_at (table_count words)) c.choice

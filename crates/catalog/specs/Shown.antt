@@ -54,8 +54,8 @@ new_table c = record { name = c.name; columns = c.columns; block = new_block c }
 abbrev pub shown_table : Creation → Table
 shown_table c = record { name = c.name; columns = c.columns; next_row = 0 }
 
--- The creation may begin on whole segments that keep the heap's rules, lane 0 is idle, and the slot behind the one at the
--- count is null.
+-- The creation may begin on whole segments that keep the heap's rules, lane 0 is idle, and the slot behind the one at
+-- the count is null.
 pub record MayCreateOn (base : List ℕ) (c : Creation) : Type 0 where
   pub may : MayCreate base c
   pub rules : KeepsHeapRules base

@@ -21,11 +21,11 @@ const ALLOCATION_ACTIONS: u32 = 23;
 const COUNT_ACTIONS: u32 = 3;
 
 impl Catalog {
-    /// Plans the creation of a table: its block is allocated through the lane into the table slot at the count, all words of
-    /// the block are stored, and the count is raised.
+    /// Plans the creation of a table: its block is allocated through the lane into the table slot at the count, all
+    /// words of the block are stored, and the count is raised.
     ///
-    /// The plan may be played by any session, where the words that it writes are clean. Once it was played, `published` adds
-    /// the table. After an error the heap and the catalog are as they were.
+    /// The plan may be played by any session, where the words that it writes are clean. Once it was played, `published`
+    /// adds the table. After an error the heap and the catalog are as they were.
     pub fn plan_create<M: Memory>(
         &mut self,
         alloc: Global,

@@ -7,9 +7,9 @@ ghost use Rattle.catalog.specs.Creation.{Creation};
 ghost use Rattle.catalog.specs.Entries.{HasNames, published_tables};
 ghost use Rattle.catalog.specs.Shown.{new_table, shown_table, IsUncreated, IsCreated};
 
-/// A creation: once opening's steps of its lane and of the table slot at the count were made, each cut has the tables and
-/// the live blocks before it, or those after it. After its last action it has those after it. Where the entry rules are kept
-/// and owner words are apart, the published tables are those before, or those and the new one.
+/// A creation: once opening's steps of its lane and of the table slot at the count were made, each cut has the tables
+/// and the live blocks before it, or those after it. After its last action it has those after it. Where the entry rules
+/// are kept and owner words are apart, the published tables are those before, or those and the new one.
 pub fn creation_law()
     ensures survives { (c : Creation) → Survives (creation c) }
     ensures before { (base words : List ℕ) (c : Creation) →

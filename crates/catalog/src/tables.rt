@@ -123,7 +123,8 @@ impl Catalog {
         self.tables[table as usize].block
     }
 
-    /// Adds the table whose creation was planned last: its plan was played, and the memory has the table. It takes no memory.
+    /// Adds the table whose creation was planned last: its plan was played, and the memory has the table. It takes no
+    /// memory.
     pub fn published(&mut self)
         requires planned { IsSome self.old.planned }
         requires room { length self.old.tables < 32 }

@@ -34,7 +34,8 @@ pub record IsTwoWords (known : List (List ℕ)) (part : Part) (words rest : List
 abbrev pub ArePartsOf : List (List ℕ) → List Part → List (List ℕ) → Type 0
 ArePartsOf known [] words = words ≡ []
 ArePartsOf known (part ∷ parts) words =
-    (rest : List (List ℕ)) × (IsPath part words rest ⊎ IsOneWord known part words rest ⊎ IsTwoWords known part words rest)
+    (rest : List (List ℕ))
+    × (IsPath part words rest ⊎ IsOneWord known part words rest ⊎ IsTwoWords known part words rest)
     × ArePartsOf known parts rest
 
 -- the parts of words are exactly those that stand there; each word is one that may stand

@@ -26,8 +26,8 @@ pub record IsRecoverable (words : List ℕ) : Type 0 where
 
 -- ── the same, said word by word and with no opening in it ──
 
--- The image fits together: each stamp is that of a commit, or opening takes it back; and every row that was given out is
--- used up, or will be.
+-- The image fits together: each stamp is that of a commit, or opening takes it back; and every row that was given out
+-- is used up, or will be.
 pub record Fits (words : List ℕ) : Type 0 where
   pub entry : KeepsEntryRules words
   pub high : slice_index words high_at ≤ 4096

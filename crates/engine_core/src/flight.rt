@@ -130,7 +130,8 @@ pub(crate) fn enter(
 
 /// Marks the last entry as answered.
 pub(crate) fn mark_answered(history: &mut Vec<Entry>)
-    ensures items { (front : List Entry) → (last : Entry) → history.old.items ≡ front ++ last ∷ [] → history.new.items ≡ front ++ answered last ∷ [] }
+    ensures items { (front : List Entry) → (last : Entry) → history.old.items ≡ front ++ last ∷ []
+        → history.new.items ≡ front ++ answered last ∷ [] }
     ensures capacity { vec_capacity history.new ≡ vec_capacity history.old }
 {
     if let Some(entry) = history.last_mut() {

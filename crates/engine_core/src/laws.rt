@@ -11,12 +11,14 @@ ghost use Rattle.engine_core.specs.Recoverable.{IsRecoverable, Fits};
 /// The law of opening, on images of one segment or more.
 pub fn opening_law()
     // Its parts are a plan, after which the device rests with the recovered words.
-    ensures plan { (words : List ℕ) → 32768 ≤ length words → KeepsEntryRules words → IsPlan (length words) (opening_parts words) }
+    ensures plan { (words : List ℕ) → 32768 ≤ length words → KeepsEntryRules words
+        → IsPlan (length words) (opening_parts words) }
     ensures reaches { (words : List ℕ) → 32768 ≤ length words → KeepsEntryRules words →
         run 0 (plan_of (opening_parts words)) (at_rest words) ≡ at_rest (recovered words) }
 
     // A power cut after any of its actions leaves an image that can be opened anew, and shows the same.
-    ensures cut { (words : List ℕ) (k : ℕ) (image : List ℕ) → 32768 ≤ length words → IsRecoverable words → k ≤ length (plan_of (opening_parts words)) →
+    ensures cut { (words : List ℕ) (k : ℕ) (image : List ℕ) → 32768 ≤ length words → IsRecoverable words
+        → k ≤ length (plan_of (opening_parts words)) →
         IsCrashImage (run 0 (take k (plan_of (opening_parts words))) (at_rest words)) image →
         IsRecoverable image × (logical_state image ≡ logical_state words) }
 
@@ -25,7 +27,8 @@ pub fn opening_law()
 
     // It accepts exactly the images that keep the rules of each image, and that are sound once they are opened; among
     // them are those that it recovers.
-    ensures faultless { (words : List ℕ) → 32768 ≤ length words → (opening_fault words ≡ None) ↔ (KeepsEntryRules words × IsSound (recovered words)) }
+    ensures faultless { (words : List ℕ) → 32768 ≤ length words
+        → (opening_fault words ≡ None) ↔ (KeepsEntryRules words × IsSound (recovered words)) }
     ensures accepted { (words : List ℕ) → 32768 ≤ length words → IsRecoverable words → opening_fault words ≡ None }
 
     // It plays nothing on a sound image.
@@ -34,5 +37,6 @@ pub fn opening_law()
 
     // A formatted image is sound, and shows a store of one empty table.
     ensures formatted { (segments : ℕ) → 1 ≤ segments →
-        IsSound (stage_words segments) × IsRecoverable (stage_words segments) × (logical_state (stage_words segments) ≡ one_empty_table) }
+        IsSound (stage_words segments) × IsRecoverable (stage_words segments)
+        × (logical_state (stage_words segments) ≡ one_empty_table) }
 {}

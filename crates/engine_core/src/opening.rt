@@ -82,7 +82,8 @@ fn mend<M: Memory>(alloc: Global, memory: &mut M, mending: Mending) -> Result<()
     requires rules { KeepsEntryRules (M.device memory.old).cached }
     requires object { IsOfObject mending }
     requires plan { IsMending (mending_of mending) (M.device memory.old).cached }
-    ensures { IfOk result (λ _. M.device memory.new ≡ at_rest (after_mending (mending_of mending) (M.device memory.old).cached)) }
+    ensures { IfOk result
+        (λ _. M.device memory.new ≡ at_rest (after_mending (mending_of mending) (M.device memory.old).cached)) }
 {
     let mut plan = plan_mending(alloc, memory, mending)?;
     let count = plan.len();
@@ -156,7 +157,8 @@ fn plan_close<M: Memory>(alloc: Global, memory: &M, object: u8) -> Result<Plan, 
 fn is_undecided<M: Memory>(memory: &M, object: u8) -> bool
     requires whole { IsWhole (M.device memory.now) }
     requires object { object < 16 }
-    ensures { result ≡ (is_open (M.device memory.now).cached object && slice_index (M.device memory.now).cached (commit_word_at object) == 0) }
+    ensures { result ≡ (is_open (M.device memory.now).cached object
+        && slice_index (M.device memory.now).cached (commit_word_at object) == 0) }
 {
     memory.load(object_state(object)) == 1 && memory.load(commit_word(object)) == 0
 }
@@ -165,7 +167,8 @@ fn is_undecided<M: Memory>(memory: &M, object: u8) -> bool
 fn is_decided<M: Memory>(memory: &M, object: u8) -> bool
     requires whole { IsWhole (M.device memory.now) }
     requires object { object < 16 }
-    ensures { result ≡ (is_open (M.device memory.now).cached object && not (slice_index (M.device memory.now).cached (commit_word_at object) == 0)) }
+    ensures { result ≡ (is_open (M.device memory.now).cached object
+        && not (slice_index (M.device memory.now).cached (commit_word_at object) == 0)) }
 {
     memory.load(object_state(object)) == 1 && memory.load(commit_word(object)) != 0
 }
@@ -210,7 +213,8 @@ fn count_commits<M: Memory>(memory: &M) -> u64
 fn open_commit<M: Memory>(memory: &M, object: u8) -> u64
     requires whole { IsWhole (M.device memory.now) }
     requires object { object < 16 }
-    ensures { result ≡ of_open (M.device memory.now).cached (λ k. slice_index (M.device memory.now).cached (commit_word_at k)) object }
+    ensures { result ≡ of_open (M.device memory.now).cached
+        (λ k. slice_index (M.device memory.now).cached (commit_word_at k)) object }
 {
     if memory.load(object_state(object)) == 1 {
         memory.load(commit_word(object))
@@ -329,7 +333,8 @@ fn push_needed<M: Memory>(
     requires few { length part.now ≤ 61 }
     requires empty { plan.old.left ≡ [] }
     requires room { 126 ≤ plan.old.spare }
-    ensures left { IfOk result (λ _. plan.new.left ≡ plan_of (unless_empty (needed_stores (M.device memory.now).cached part.now))) }
+    ensures left { IfOk result
+        (λ _. plan.new.left ≡ plan_of (unless_empty (needed_stores (M.device memory.now).cached part.now))) }
     ensures spare { IfOk result (λ _. 3 ≤ plan.new.spare) }
 {
     let needed = needed(alloc, memory, part)?;
@@ -397,7 +402,8 @@ fn take_store<M: Memory>(memory: &M, store: Action, kept: &mut Vec<Action>, mark
     requires stores { AreMended (store ∷ []) }
     requires marks { length marks.old ≡ 10240 }
     requires room { vec_len kept.old < vec_capacity kept.old }
-    ensures taken { (part : Part) → IsTaken (M.device memory.now).cached part kept.old.items marks.old → IsTaken (M.device memory.now).cached (store ∷ part) kept.new.items marks.new }
+    ensures taken { (part : Part) → IsTaken (M.device memory.now).cached part kept.old.items marks.old
+        → IsTaken (M.device memory.now).cached (store ∷ part) kept.new.items marks.new }
     ensures len { vec_len kept.new ≤ vec_len kept.old + 1 }
     ensures capacity { vec_capacity kept.new ≡ vec_capacity kept.old }
     ensures size { length marks.new ≡ 10240 }

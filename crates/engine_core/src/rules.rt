@@ -97,7 +97,10 @@ fn is_reserved(page: u16) -> bool
 fn bad_page<M: Memory>(memory: &M, page: u16) -> Option<u32>
     requires whole { IsWhole (M.device memory.now) }
     requires page { 512 * page < length (M.device memory.now).cached }
-    ensures { result ≡ first_failing (if is_reserved_page page then check (descriptor_at page) (slice_index (M.device memory.now).cached (descriptor_at page) == 8) ∷ [] else []) }
+    ensures { result ≡ first_failing
+        (if is_reserved_page page
+        then check (descriptor_at page) (slice_index (M.device memory.now).cached (descriptor_at page) == 8) ∷ []
+        else []) }
 {
     let place = descriptor(Page(page));
     if is_reserved(page) {
@@ -174,7 +177,8 @@ fn bad_entry_at<M: Memory>(memory: &M, object: u8, nth: u8) -> Option<u32>
     requires whole { IsWhole (M.device memory.now) }
     requires object { object < 16 }
     requires nth { nth < 60 }
-    ensures { result ≡ first_failing (check (entry_at object nth) (is_entry_word (M.device memory.now).cached object nth) ∷ []) }
+    ensures { result ≡ first_failing
+        (check (entry_at object nth) (is_entry_word (M.device memory.now).cached object nth) ∷ []) }
 {
     let place = entry_word(object, nth);
     let word = memory.load(place);

@@ -23,7 +23,8 @@ pub fn stage_fresh(alloc: Global, segments: u32) -> Result<Vec<u64>, NoMemory>
 // Makes the words of a formatted image those of a stage image.
 fn make_stage(words: &mut [u64])
     requires { 514 ≤ length words.old }
-    ensures { (w : ℕ) → slice_index words.new w ≡ (if nat_lt w 28 then 8 else if w == 513 then 102 else slice_index words.old w) }
+    ensures { (w : ℕ) → slice_index words.new w
+        ≡ (if nat_lt w 28 then 8 else if w == 513 then 102 else slice_index words.old w) }
 {
     reserve_stage_pages(words);
     words[version().0 as usize] = STAGE_VERSION;

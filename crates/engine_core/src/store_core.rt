@@ -78,9 +78,21 @@ impl<M: Memory> Model for Core<M> {
 
     ghost Value = { CoreState M };
 
-    ghost view = { λ c. record { memory = c.memory; opened = c.opened.items; history = c.history.items; due = due (length c.history.items) c.flight; in_flight = in_flight_of c.flight; to_play = length (left_of c.plan); events_left = c.events_left; played = c.played; started = c.started } };
+    ghost view = { λ c. record {
+      memory = c.memory;
+      opened = c.opened.items;
+      history = c.history.items;
+      due = due (length c.history.items) c.flight;
+      in_flight = in_flight_of c.flight;
+      to_play = length (left_of c.plan);
+      events_left = c.events_left;
+      played = c.played;
+      started = c.started;
+    } };
 
-    ghost invariant = { λ c. IsKept (M.device c.memory) c.opened.items c.history.items c.transactions (left_of c.plan) c.flight c.events_left c.played c.started
+    ghost invariant = { λ c.
+        IsKept (M.device c.memory) c.opened.items c.history.items c.transactions
+        (left_of c.plan) c.flight c.events_left c.played c.started
         × (pending c.flight + vec_len c.history ≤ vec_capacity c.history)
         × (c.shape ≡ columns) };
 }
@@ -103,13 +115,15 @@ impl<M: Memory + Drop> Drop for Core<M> {
 }
 
 impl<M: Memory + Drop> Core<M> {
-    /// A core over a device at rest with the words of an image, such as a power cut leaves. Opening mends it. An image is
-    /// refused by the first rule of each image that it breaks, or that it breaks once it was opened. The rules of each image
-    /// are tried without memory: where memory runs out, none of them is broken.
+    /// A core over a device at rest with the words of an image, such as a power cut leaves. Opening mends it. An image
+    /// is refused by the first rule of each image that it breaks, or that it breaks once it was opened. The rules of
+    /// each image are tried without memory: where memory runs out, none of them is broken.
     pub fn from_memory(alloc: Global, memory: M) -> Result<Core<M>, OpenError>
         requires rests { M.device memory ≡ at_rest (M.device memory).cached }
         ensures opened { IfOk result (λ core. core.opened ≡ recovered (M.device memory).cached) }
-        ensures device { IfOk result (λ core. M.device core.memory ≡ run 0 (plan_of (opening_parts (M.device memory).cached)) (M.device memory)) }
+        ensures device { IfOk result
+            (λ core. M.device core.memory
+            ≡ run 0 (plan_of (opening_parts (M.device memory).cached)) (M.device memory)) }
         ensures rests { IfOk result (λ core. M.device core.memory ≡ at_rest core.opened) }
         ensures accepted { IfOk result (λ core. opening_fault (M.device memory).cached ≡ None) }
         ensures refused { IfErr result (λ error. IsRefusal error (opening_fault (M.device memory).cached)) }
@@ -156,7 +170,12 @@ impl<M: Memory> Core<M> {
         requires free { self.old.in_flight ≡ Nothing }
         requires served { IsTrue (is_served said) }
         requires room { self.old.started < 2 ^ 32 - 1 }
-        ensures started { IfOk result (λ _. self.new ≡ record self.old { in_flight = Unplaced said; events_left = 65536; started = self.old.started + 1 }) }
+        ensures started { IfOk result
+            (λ _. self.new ≡ record self.old {
+              in_flight = Unplaced said;
+              events_left = 65536;
+              started = self.old.started + 1;
+            }) }
         ensures refused { IfErr result (λ _. self.new ≡ self.old) }
     {
         match self.history.reserve(1) {
@@ -199,8 +218,8 @@ impl<M: Memory> Core<M> {
         !is_idle(&self.flight)
     }
 
-    /// The calls that have their place, in order, each with the reply that it was given or is to be given. Only the last
-    /// of them may still wait for its reply.
+    /// The calls that have their place, in order, each with the reply that it was given or is to be given. Only the
+    /// last of them may still wait for its reply.
     pub fn history(&self) -> &[Entry]
         ensures entries { result.now ≡ self.now.history }
         ensures legal { IsLegal (logical_state self.now.opened) self.now.history }
@@ -212,17 +231,21 @@ impl<M: Memory> Core<M> {
         self.history.as_slice()
     }
 
-    /// The device. Whatever image a power cut leaves of it now is recoverable, and stands for a state that may be recovered:
-    /// the one that the history leaves, or also the commit that is due, while its commit word is stored and not durable.
-    /// With no call in flight each word is durable. The actions that were played are the first of the plans of the history
-    /// and of the commit that is due, one after the other.
+    /// The device. Whatever image a power cut leaves of it now is recoverable, and stands for a state that may be
+    /// recovered: the one that the history leaves, or also the commit that is due, while its commit word is stored and
+    /// not durable. With no call in flight each word is durable. The actions that were played are the first of the
+    /// plans of the history and of the commit that is due, one after the other.
     pub fn memory(&self) -> &M
         ensures memory { result.now ≡ self.now.memory }
         ensures device { M.device self.now.memory ≡ run 1
-            (take self.now.played (plan_in (logical_state self.now.opened) (self.now.history ++ self.now.due))) (at_rest self.now.opened) }
+            (take self.now.played (plan_in (logical_state self.now.opened) (self.now.history ++ self.now.due)))
+            (at_rest self.now.opened) }
         ensures recoverable { (image : List ℕ) → IsCrashImage (M.device self.now.memory) image → IsRecoverable image }
-        ensures may_recover_to { (image : List ℕ) → IsCrashImage (M.device self.now.memory) image → MayRecoverTo (logical_state self.now.opened) self.now.history (undecided (M.device self.now.memory) self.now.due) (logical_state image) }
-        ensures rests { self.now.in_flight ≡ Nothing → (M.device self.now.memory).durable ≡ (M.device self.now.memory).cached }
+        ensures may_recover_to { (image : List ℕ) → IsCrashImage (M.device self.now.memory) image
+            → MayRecoverTo (logical_state self.now.opened) self.now.history
+            (undecided (M.device self.now.memory) self.now.due) (logical_state image) }
+        ensures rests { self.now.in_flight ≡ Nothing
+            → (M.device self.now.memory).durable ≡ (M.device self.now.memory).cached }
     {
         &self.memory
     }
@@ -234,11 +257,12 @@ impl<M: Memory> Core<M> {
         self.opened.as_slice()
     }
 
-    /// How many actions were played since the core was opened: with those that are left, the plans of the history and of
-    /// the commit that is due.
+    /// How many actions were played since the core was opened: with those that are left, the plans of the history and
+    /// of the commit that is due.
     pub fn played(&self) -> u64
         ensures played { result ≡ self.now.played }
-        ensures counted { self.now.played + self.now.to_play ≡ length (plan_in (logical_state self.now.opened) (self.now.history ++ self.now.due)) }
+        ensures counted { self.now.played + self.now.to_play
+            ≡ length (plan_in (logical_state self.now.opened) (self.now.history ++ self.now.due)) }
     {
         self.played
     }
@@ -334,7 +358,8 @@ impl<M: Memory> Core<M> {
         requires placed { self.old.in_flight ≡ Last }
         requires to_play { self.old.to_play ≡ 0 }
         ensures device { self.new.memory ≡ self.old.memory }
-        ensures event { IsEvent (Replied result) (M.device self.old.memory) (M.device self.new.memory) self.old self.new }
+        ensures event { IsEvent (Replied result) (M.device self.old.memory)
+            (M.device self.new.memory) self.old self.new }
     {
         let reply = take_reply(&mut self.flight);
         mark_answered(&mut self.history);

@@ -61,14 +61,15 @@ impl<M: Memory> Memory for Witness<M> {
         self.inner.is_clean(at)
     }
 
-    /// The image is taken once so many actions were played as the cut is to come after, and stays as it is at each other
-    /// action.
+    /// The image is taken once so many actions were played as the cut is to come after, and stays as it is at each
+    /// other action.
     fn act(&mut self, session: u8, action: Action)
         requires session { session ≤ 16 }
         requires can_act { CanAct action (M.device self.old.inner) }
         ensures acted { M.device self.new.inner ≡ acted session action (M.device self.old.inner) }
         ensures played { self.new.played ≡ min (self.old.played + 1) (2 ^ 64 - 1) }
-        ensures taken { self.new.played ≡ self.old.at → IfSome self.new.image (λ image. image.items ≡ image_of self.old.keep (M.device self.new.inner)) }
+        ensures taken { self.new.played ≡ self.old.at
+            → IfSome self.new.image (λ image. image.items ≡ image_of self.old.keep (M.device self.new.inner)) }
         ensures kept { self.new.played ≢ self.old.at → self.new.image ≡ self.old.image }
         ensures at { self.new.at ≡ self.old.at }
         ensures keep { self.new.keep ≡ self.old.keep }
