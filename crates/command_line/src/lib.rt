@@ -2,6 +2,8 @@
 //!
 //! Layer: texts, above `sf_value`. `session_serve` does the job, `sofort_main` opens the paths.
 //!
+//! State: none.
+//!
 //! Invariants:
 //! 1. the words of exactly the commands of `docs/COMMANDS.md` are accepted, and anything else is wrong usage;
 //! 2. an option stands once at most, anywhere behind the command's name.

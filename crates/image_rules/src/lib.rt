@@ -10,6 +10,8 @@
 //! - The rules of owner words are tried of tables, arrays and transaction objects: `built_owners_law` says that these
 //!   are all, where the tree of each column is empty.
 //!
+//! State: none.
+//!
 //! Invariants:
 //! 1. a rule is tried after those that it relies on: a call's `requires` names them;
 //! 2. within a rule the words are tried in the order of `docs/OPENING.md`, so the place is that of the first which

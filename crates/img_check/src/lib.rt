@@ -6,6 +6,8 @@
 //! - `check` tries the numbered rules of an image at rest, in their order. A yes means that each is kept; a no names
 //!   the first that is broken, and the first place at which it is.
 //!
+//! State: none.
+//!
 //! Invariants:
 //! 1. no rule is tried before those that it relies on are kept;
 //! 2. want of memory is no verdict: it says only which rules were kept before.
