@@ -15,15 +15,16 @@ use Rattle.image_layout.proofs.Members.{Contains-cons, Contains-here, Contains-n
 use Rattle.image_layout.proofs.OwnersApart.{all_from}
 use Rattle.shown_state.specs.Fits.{Fits, is_undecided}
 use Rattle.shown_state.specs.Mending.{clear_mending}
-use Rattle.shown_state.specs.OpeningParts.{FitsStill, IsImage}
+use Rattle.shown_state.specs.OpeningParts.{IsImage}
 use Rattle.shown_state.specs.StepLaws.{AreClear, ClearsKeep}
 use Rattle.shown_state.proofs.ReadsStand.{reads_keep_off}
-use Rattle.opening_steps.proofs.Closer.{closer_fits, IsCloser, last_same, undecided_same}
+use Rattle.opening_steps.specs.QuietImages.{StaysQuiet}
+use Rattle.opening_steps.proofs.Closer.{closer_stays, IsCloser, last_same, undecided_same}
 use Rattle.opening_steps.proofs.Idle.{KeepsStamps, MayChange, places}
 use Rattle.opening_steps.proofs.NoneNew.{entry_apart, entry_behind, entry_word, none_new}
 use Rattle.opening_steps.proofs.ObjectWords.{IsObjectWord, objects_keep_stamps, objects_may_change, objects_only, of_own}
 use Rattle.opening_steps.proofs.Objects.{entry_places_same}
-use Rattle.opening_steps.proofs.Steps.{step_by}
+use Rattle.opening_steps.proofs.Steps.{step_by, step_keeps, StepStays}
 
 -- ── one value at many places ──
 
@@ -108,8 +109,8 @@ module _ (words : List ℕ) (object : ℕ) (image : IsImage words) (number : obj
         low : Contains spots last_at → ⊥
         low is = let behind = entry_behind words fits object last_at number is in omega (arith, behind)
 
-    pub still : FitsStill words cut
-    still = closer_fits words cut (IsObjectWord words) image fits has.0.0.0 may stamps closer
+    pub still : StaysQuiet words cut
+    still = closer_stays words cut (IsObjectWord words) image fits has.0.0.0 may stamps closer
 
   abbrev cleared_words : List ℕ
   cleared_words = words_after part words
@@ -156,9 +157,12 @@ module _ (words : List ℕ) (object : ℕ) (image : IsImage words) (number : obj
   all_stores : AllStores (length words) (part ∷ [])
   all_stores = (stores-map IsCleared (λ place value. place < length words) part (λ place value is. is.within) are_cleared, tt)
 
-pub clears_keep : ClearsKeep
-clears_keep words object image number fits has =
+pub clears_stay : (words : List ℕ) (object : ℕ) → IsImage words → object < 16 → Fits words → AreClear object words → StepStays (AreClear (object + 1)) (clear_mending object) words
+clears_stay words object image number fits has =
     let part : Part = stores 0 (entry_places words object) ++ one_store (commit_word_at object) 0 in
     step_by (AreClear (object + 1)) (clear_mending object) words (part ∷ []) refl (all_stores words object image number fits has)
     (still words object image number fits has, still words object image number fits has (words_after part words) (between-end part words))
     (cleared words object image number fits has)
+
+pub clears_keep : ClearsKeep
+clears_keep words object image number fits has = step_keeps (AreClear (object + 1)) (clear_mending object) words (clears_stay words object image number fits has)

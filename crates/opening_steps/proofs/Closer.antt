@@ -19,12 +19,14 @@ use Rattle.image_layout.proofs.OwnedBlocks.{one_object}
 use Rattle.image_layout.proofs.OwnersApart.{all_from}
 use Rattle.shown_state.specs.Fits.{Fits, is_undecided, undecided_bound}
 use Rattle.shown_state.specs.LogicalState.{created_rows, next_row_of, open_bound, row_bound}
-use Rattle.shown_state.specs.OpeningParts.{FitsStill, IsImage}
+use Rattle.shown_state.specs.OpeningParts.{IsImage}
 use Rattle.shown_state.specs.StepLaws.{HaveNoNew}
 use Rattle.shown_state.proofs.Alike.{filter_below, map_alike}
 use Rattle.shown_state.proofs.SameTables.{created_is, ended_is, IsHeader}
 use Rattle.opening_steps.proofs.Fitting.{still_fits, TransactionsFit}
 use Rattle.opening_steps.proofs.Idle.{ChangesOnly, KeepsStamps, MayChange, places}
+use Rattle.opening_steps.specs.QuietImages.{StaysQuiet}
+use Rattle.opening_steps.proofs.NoneNew.{none_new}
 use Rattle.opening_steps.proofs.Objects.{entry_places_same}
 use Rattle.opening_steps.proofs.ReadRules.{objects_kept}
 use Rattle.opening_steps.proofs.Rows.{rows_alike, rows_same, StampsSame}
@@ -277,10 +279,13 @@ module _ (old new : List ℕ) (changed : ℕ → Type 0) (image : IsImage old) (
         };
       }
 
-  pub closer_fits : FitsStill old new
-  closer_fits = record {
-    fits = still_fits old new changed image fits clear may closer.only transactions;
-    shows = state_same old new same fits.entry.arrays fits.codes alike fits.rows;
+  pub closer_stays : StaysQuiet old new
+  closer_stays = record {
+    still = record {
+      fits = still_fits old new changed image fits clear may closer.only transactions;
+      shows = state_same old new same fits.entry.arrays fits.codes alike fits.rows;
+    };
+    quiet = none_new old new changed image fits clear may closer.only;
   }
     where
       alike : StampsAlike old new

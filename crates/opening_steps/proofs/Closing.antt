@@ -1,5 +1,5 @@
 -- Closing the object of a transaction that is committed keeps what fits, and shows the same.
-use Rattle.std.proofs.Common.{◌≡◌, ◌≢◌, inl, inr, ⊎_elim, ℕ, ◌+◌, ◌<◌, Bool, true, false, not, ◌&&◌, eqb, List, [], ◌∷◌, length, get_or, set, refl, sym, ◌∙◌, ap, arith}
+use Rattle.std.proofs.Common.{◌≡◌, ◌≢◌, inl, inr, ⊎_elim, ℕ, ◌+◌, ◌<◌, Bool, true, false, not, ◌&&◌, eqb, List, [], ◌∷◌, length, get_or, set, sym, ◌∙◌, ap, arith}
 use Rattle.std.proofs.lemmas.Bool.{and_from, both_ways, cases_Bool, cases_eq, cond-false, cond-true, eq-eqb, eqb-true}
 use Rattle.std.proofs.lemmas.List.{get_or-set_other, get_or-set_same, length-set}
 use Rattle.pm_model.specs.Needed.{AllStores}
@@ -9,13 +9,14 @@ use Rattle.image_layout.specs.Fixed.{commit_word_at, last_at, state_at}
 use Rattle.image_layout.specs.Objects.{commit_word, is_open}
 use Rattle.shown_state.specs.Fits.{Fits, is_undecided}
 use Rattle.shown_state.specs.Mending.{close_mending}
-use Rattle.shown_state.specs.OpeningParts.{FitsStill, IsImage}
+use Rattle.shown_state.specs.OpeningParts.{IsImage}
 use Rattle.shown_state.specs.StepLaws.{AreClosed, ClosesKeep}
-use Rattle.opening_steps.proofs.Closer.{closer_fits, IsCloser, last_same, state_low, undecided_same}
+use Rattle.opening_steps.specs.QuietImages.{StaysQuiet}
+use Rattle.opening_steps.proofs.Closer.{closer_stays, IsCloser, last_same, state_low, undecided_same}
 use Rattle.opening_steps.proofs.Idle.{KeepsStamps, MayChange}
 use Rattle.opening_steps.proofs.NoneNew.{entry_apart, none_new}
 use Rattle.opening_steps.proofs.ObjectWords.{IsObjectWord, objects_keep_stamps, objects_may_change, objects_only, of_own}
-use Rattle.opening_steps.proofs.Steps.{step_by}
+use Rattle.opening_steps.proofs.Steps.{as_it_is, step_by, step_keeps, StepStays}
 
 module _ (words : List ℕ) (object : ℕ) (image : IsImage words) (number : object < 16) (fits : Fits words) (has : AreClosed object words) where
   abbrev at : ℕ
@@ -67,8 +68,8 @@ module _ (words : List ℕ) (object : ℕ) (image : IsImage words) (number : obj
   stamps : KeepsStamps words (IsObjectWord words)
   stamps = objects_keep_stamps words fits has.0.0
 
-  still : FitsStill words stored
-  still = closer_fits words stored (IsObjectWord words) image fits has.0.0 may stamps closer
+  still : StaysQuiet words stored
+  still = closer_stays words stored (IsObjectWord words) image fits has.0.0 may stamps closer
 
   closed : AreClosed (object + 1) stored
   closed = (
@@ -105,18 +106,21 @@ module _ (words : List ℕ) (object : ℕ) (image : IsImage words) (number : obj
     λ one lt. ⊎_elim (λ (e : one ≡ object). ap (λ (o : ℕ). get_or words (state_at o) 0) e ∙ was_closed miss) (λ apart. has.1 one (omega (arith, lt, apart))) (cases_eq one object),
   )
 
-pub closes_keep : ClosesKeep
-closes_keep words object image number fits has =
+pub closes_stay : (words : List ℕ) (object : ℕ) → IsImage words → object < 16 → Fits words → AreClosed object words → StepStays (AreClosed (object + 1)) (close_mending object) words
+closes_stay words object image number fits has =
     let at = state_at object in
     let test = is_open words object && not (eqb (commit_word words object) 0) in
     ⊎_elim
     (λ (hit : test ≡ true). step_by (AreClosed (object + 1)) (close_mending object) words (one_store at 0 ∷ []) (cond-true test (one_store at 0 ∷ []) [] hit)
     (stores words object image number fits has) (
-      cut-one_store (FitsStill words) at 0 words (record { fits = fits; shows = refl }) (still words object image number fits has),
+      cut-one_store (StaysQuiet words) at 0 words (as_it_is words fits has.0.0) (still words object image number fits has),
       still words object image number fits has,
     )
     (closed words object image number fits has))
     (λ (miss : test ≡ false). step_by (AreClosed (object + 1)) (close_mending object) words [] (cond-false test (one_store at 0 ∷ []) [] miss) tt
-    (record { fits = fits; shows = refl })
+    (as_it_is words fits has.0.0)
     (as_before words object image number fits has miss))
     (cases_Bool test)
+
+pub closes_keep : ClosesKeep
+closes_keep words object image number fits has = step_keeps (AreClosed (object + 1)) (close_mending object) words (closes_stay words object image number fits has)

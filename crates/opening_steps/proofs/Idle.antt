@@ -75,7 +75,7 @@ module _ (old : List ℕ) (fits : Fits old) (clear : HaveNoNew 512 old) where
       let all : All P (all_columns old) = subst (All P) (take_all 512 (all_columns old) (all_few old fits)) clear.0.1 in
       All-contains P (all_columns old) column all is
 
-  text_null : (column at : ℕ) → Contains (all_columns old) column → Contains (next_text_slots old column) at → get_or old at 0 ≡ 0
+  pub text_null : (column at : ℕ) → Contains (all_columns old) column → Contains (next_text_slots old column) at → get_or old at 0 ≡ 0
   text_null column at is next =
       let P : ℕ → Type 0 = λ c. All (λ a. get_or old a 0 ≡ 0) (next_text_slots old c) in
       let all : All P (all_columns old) = subst (All P) (take_all 512 (all_columns old) (all_few old fits)) clear.2 in

@@ -1,5 +1,5 @@
 -- Storing the number of the last commit keeps what fits, and shows the same.
-use Rattle.std.proofs.Common.{◌≡◌, ◌≢◌, inl, inr, ⊎_elim, ℕ, ◌<◌, eqb, List, length, get_or, set, refl, sym, ◌∙◌, ap, subst, arith}
+use Rattle.std.proofs.Common.{◌≡◌, ◌≢◌, inl, inr, ⊎_elim, ℕ, ◌<◌, eqb, List, length, get_or, set, sym, ◌∙◌, ap, subst, arith}
 use Rattle.std.proofs.lemmas.Bool.{and_parts, cases_eq}
 use Rattle.std.proofs.lemmas.List.{get_or-set_other, get_or-set_same, length-set}
 use Rattle.pm_model.specs.Needed.{AllStores}
@@ -9,12 +9,14 @@ use Rattle.image_layout.specs.Fixed.{commit_word_at, last_at, state_at}
 use Rattle.image_layout.specs.Objects.{commit_word, is_open, last_commit}
 use Rattle.shown_state.specs.Fits.{Fits}
 use Rattle.shown_state.specs.Mending.{last_mending}
-use Rattle.shown_state.specs.OpeningParts.{FitsStill, IsImage}
+use Rattle.shown_state.specs.OpeningParts.{IsImage}
 use Rattle.shown_state.specs.StepLaws.{AreUndone, HaveNoNew, LastKeeps}
-use Rattle.opening_steps.proofs.Closer.{closer_fits, IsCloser, last_same}
+use Rattle.opening_steps.specs.QuietImages.{StaysQuiet}
+use Rattle.opening_steps.proofs.Closer.{closer_stays, IsCloser, last_same}
 use Rattle.opening_steps.proofs.Idle.{KeepsStamps, MayChange}
 use Rattle.opening_steps.proofs.NoneNew.{entry_behind, none_new}
 use Rattle.opening_steps.proofs.ObjectWords.{IsObjectWord, objects_keep_stamps, objects_may_change, objects_only, the_last}
+use Rattle.opening_steps.proofs.Steps.{as_it_is, step_keeps, StepStays}
 
 module _ (words : List ℕ) (image : IsImage words) (fits : Fits words) (clear : HaveNoNew 512 words) where
   abbrev number : ℕ
@@ -59,8 +61,8 @@ module _ (words : List ℕ) (image : IsImage words) (fits : Fits words) (clear :
   stamps : KeepsStamps words (IsObjectWord words)
   stamps = objects_keep_stamps words fits clear
 
-  still : FitsStill words stored
-  still = closer_fits words stored (IsObjectWord words) image fits clear may stamps closer
+  still : StaysQuiet words stored
+  still = closer_stays words stored (IsObjectWord words) image fits clear may stamps closer
 
   stores : AllStores (length words) (last_mending words)
   stores = ((inside, tt), tt)
@@ -72,12 +74,15 @@ module _ (words : List ℕ) (image : IsImage words) (fits : Fits words) (clear :
     λ object none. absurd (omega (arith, none)),
   )
 
-pub last_keeps : LastKeeps
-last_keeps words image fits clear = record {
+pub last_stays : (words : List ℕ) → IsImage words → Fits words → HaveNoNew 512 words → StepStays (AreUndone 0) last_mending words
+last_stays words image fits clear = record {
   plan = needed-plan (length words) (last_mending words) words (stores words image fits clear);
-  cuts = needed-cuts (FitsStill words) (λ place value. place < length words) (last_mending words) words (stores words image fits clear) (
-    cut-one_store (FitsStill words) last_at (last_commit words) words (record { fits = fits; shows = refl }) (still words image fits clear),
+  cuts = needed-cuts (StaysQuiet words) (λ place value. place < length words) (last_mending words) words (stores words image fits clear) (
+    cut-one_store (StaysQuiet words) last_at (last_commit words) words (as_it_is words fits clear) (still words image fits clear),
     still words image fits clear,
   );
   goes_on = subst (AreUndone 0) (sym (needed-finished (λ place value. place < length words) (last_mending words) words (stores words image fits clear))) (undone words image fits clear);
 }
+
+pub last_keeps : LastKeeps
+last_keeps words image fits clear = step_keeps (AreUndone 0) last_mending words (last_stays words image fits clear)

@@ -12,6 +12,7 @@ pub mod ObjectWords
 pub mod Objects
 pub mod OwnerPlaces
 pub mod Owners
+pub mod QuietOpening
 pub mod ReadRules
 pub mod Rows
 pub mod Showing

@@ -1,16 +1,36 @@
 -- What is to be shown of a step: its parts are stores, each cut of them keeps what fits, and so it goes on behind them.
-use Rattle.std.proofs.Common.{◌≡◌, ℕ, ◌<◌, List, length, sym, subst}
-use Rattle.pm_model.specs.Needed.{AllStores, Mending, needed_parts}
+use Rattle.std.proofs.Common.{◌≡◌, ℕ, ◌<◌, List, length, refl, sym, subst}
+use Rattle.pm_model.specs.Needed.{after_mending, AllStores, Mending, needed_parts}
 use Rattle.pm_model.specs.Plans.{EachCut, finished, IsPlan, Part}
+use Rattle.pm_model.proofs.Cuts.{each_cut-map}
 use Rattle.pm_model.proofs.NeededStores.{needed-cuts, needed-finished, needed-plan}
+use Rattle.shown_state.specs.Fits.{Fits}
 use Rattle.shown_state.specs.OpeningParts.{FitsStill, StepKeeps}
+use Rattle.shown_state.specs.StepLaws.{HaveNoNew}
+use Rattle.opening_steps.specs.QuietImages.{StaysQuiet}
 
-pub step_by : (After : List ℕ → Type 0) (mending : Mending) (words : List ℕ) (parts : List Part) → mending words ≡ parts → AllStores (length words) parts → EachCut (FitsStill words) parts words → After (finished parts words)
-    → StepKeeps After mending words
+-- a step keeps what fits, and nothing gets under way in it
+pub record StepStays (After : List ℕ → Type 0) (mending : Mending) (words : List ℕ) : Type 0 where
+  pub plan : IsPlan (length words) (needed_parts words (mending words))
+  pub cuts : EachCut (StaysQuiet words) (needed_parts words (mending words)) words
+  pub goes_on : After (after_mending mending words)
+
+pub as_it_is : (words : List ℕ) → Fits words → HaveNoNew 512 words → StaysQuiet words words
+as_it_is words fits quiet = record { still = record { fits = fits; shows = refl }; quiet = quiet }
+
+pub step_by : (After : List ℕ → Type 0) (mending : Mending) (words : List ℕ) (parts : List Part) → mending words ≡ parts → AllStores (length words) parts → EachCut (StaysQuiet words) parts words → After (finished parts words)
+    → StepStays After mending words
 step_by After mending words parts are stores cuts after = record {
   plan = subst (λ (ps : List Part). IsPlan (length words) (needed_parts words ps)) (sym are) (needed-plan (length words) parts words stores);
-  cuts = subst (λ (ps : List Part). EachCut (FitsStill words) (needed_parts words ps) words) (sym are)
-      (needed-cuts (FitsStill words) (λ place value. place < length words) parts words stores cuts);
+  cuts = subst (λ (ps : List Part). EachCut (StaysQuiet words) (needed_parts words ps) words) (sym are)
+      (needed-cuts (StaysQuiet words) (λ place value. place < length words) parts words stores cuts);
   goes_on = subst (λ (ps : List Part). After (finished (needed_parts words ps) words)) (sym are)
       (subst After (sym (needed-finished (λ place value. place < length words) parts words stores)) after);
+}
+
+pub step_keeps : (After : List ℕ → Type 0) (mending : Mending) (words : List ℕ) → StepStays After mending words → StepKeeps After mending words
+step_keeps After mending words stays = record {
+  plan = stays.plan;
+  cuts = each_cut-map (StaysQuiet words) (FitsStill words) (needed_parts words (mending words)) words (λ image is. is.still) stays.cuts;
+  goes_on = stays.goes_on;
 }

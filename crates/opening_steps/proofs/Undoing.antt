@@ -26,14 +26,15 @@ use Rattle.image_layout.proofs.TableSlots.{few_tables}
 use Rattle.shown_state.specs.Fits.{Fits, is_undecided}
 use Rattle.shown_state.specs.LogicalState.{created_rows, row_bound}
 use Rattle.shown_state.specs.Mending.{raise_bound, undo_entry, undo_mending, undo_parts}
-use Rattle.shown_state.specs.OpeningParts.{FitsStill, IsImage}
+use Rattle.shown_state.specs.OpeningParts.{IsImage}
 use Rattle.shown_state.specs.StepLaws.{AreUndone, HaveNoNew, UndosKeep}
 use Rattle.shown_state.proofs.ReadsStand.{reads_keep_off}
 use Rattle.shown_state.proofs.SameTables.{created_is, ended_is}
+use Rattle.opening_steps.specs.QuietImages.{StaysQuiet}
 use Rattle.opening_steps.proofs.NoneNew.{none_new}
 use Rattle.opening_steps.proofs.StampWords.{a_bound, a_creator, a_state, an_ender, bound_behind, bounds_once, creators as in_creators, enders as in_enders, few_rows, IsUndoWord, stamp_behind, stamp_or_bound, stamps_once, undo_may_change, undo_only}
-use Rattle.opening_steps.proofs.Steps.{step_by}
-use Rattle.opening_steps.proofs.Undone.{birth_at, end_at, HasEntry, IsAllTaken, IsFreed, IsKilled, IsTaken, last_kept, last_same, taken_fits, was_undecided}
+use Rattle.opening_steps.proofs.Steps.{as_it_is, step_by, step_keeps, StepStays}
+use Rattle.opening_steps.proofs.Undone.{birth_at, end_at, HasEntry, IsAllTaken, IsFreed, IsKilled, IsTaken, last_kept, last_same, taken_stays, was_undecided}
 
 -- ── parts of stores ──
 
@@ -293,8 +294,8 @@ module _ (words : List ℕ) (object : ℕ) (image : IsImage words) (number : obj
       states = λ one lt. inl (state_kept one lt);
     }
 
-    pub cut_still : FitsStill words cut
-    cut_still = taken_fits words cut object image number fits clear open_is cut_taken
+    pub cut_still : StaysQuiet words cut
+    cut_still = taken_stays words cut object image number fits clear open_is cut_taken
 
   -- ── all of it ──
 
@@ -436,8 +437,8 @@ module _ (words : List ℕ) (object : ℕ) (image : IsImage words) (number : obj
         (cases_eq one object);
   }
 
-  pub closed_still : FitsStill words closed
-  closed_still = taken_fits words closed object image number fits clear open_is closed_taken
+  pub closed_still : StaysQuiet words closed
+  closed_still = taken_stays words closed object image number fits clear open_is closed_taken
 
   none_undecided : (one : ℕ) → one < object + 1 → is_undecided closed one ≡ false
   none_undecided one lt = ⊎_elim
@@ -465,8 +466,8 @@ module _ (words : List ℕ) (object : ℕ) (image : IsImage words) (number : obj
     ((let large = image.one_or_more in omega (arith, large, number), tt), tt),
   )
 
-pub undos_keep : UndosKeep
-undos_keep words object image number fits has =
+pub undos_stay : (words : List ℕ) (object : ℕ) → IsImage words → object < 16 → Fits words → AreUndone object words → StepStays (AreUndone (object + 1)) (undo_mending object) words
+undos_stay words object image number fits has =
     let test = is_undecided words object in
     let parts = undo_parts words object in
     ⊎_elim
@@ -474,7 +475,7 @@ undos_keep words object image number fits has =
     (all_stores words object image number fits has hit) (
       λ cut between. cut_still words object image number fits has hit cut (cut_is words object image number fits has hit cut between),
       (
-        cut-one_store (FitsStill words) (state_at object) 0 (undone words object image number fits has hit)
+        cut-one_store (StaysQuiet words) (state_at object) 0 (undone words object image number fits has hit)
             (cut_still words object image number fits has hit (undone words object image number fits has hit) (undone_is words object image number fits has hit))
             (closed_still words object image number fits has hit),
         closed_still words object image number fits has hit,
@@ -482,6 +483,9 @@ undos_keep words object image number fits has =
     )
     (goes_on words object image number fits has hit))
     (λ (miss : test ≡ false). step_by (AreUndone (object + 1)) (undo_mending object) words [] (cond-false test parts [] miss) tt
-    (record { fits = fits; shows = refl })
+    (as_it_is words fits has.0)
     (has.0, has.1, λ one lt. ⊎_elim (λ (e : one ≡ object). ap (is_undecided words) e ∙ miss) (λ apart. has.2 one (omega (arith, lt, apart))) (cases_eq one object)))
     (cases_Bool test)
+
+pub undos_keep : UndosKeep
+undos_keep words object image number fits has = step_keeps (AreUndone (object + 1)) (undo_mending object) words (undos_stay words object image number fits has)

@@ -20,7 +20,7 @@ use Rattle.image_layout.proofs.OwnersApart.{all_from}
 use Rattle.image_layout.proofs.TableSlots.{few_tables}
 use Rattle.shown_state.specs.Fits.{CreatorFits, creator, ender, EnderFits, Fits, IsEnded, IsUndecided, is_undecided, used_up}
 use Rattle.shown_state.specs.LogicalState.{created_rows, next_row_of, row_bound}
-use Rattle.shown_state.specs.OpeningParts.{FitsStill, IsImage}
+use Rattle.shown_state.specs.OpeningParts.{IsImage}
 use Rattle.shown_state.specs.StepLaws.{HaveNoNew}
 use Rattle.shown_state.proofs.Alike.{map_alike, map_below}
 use Rattle.shown_state.proofs.SameLeaves.{values_same}
@@ -28,8 +28,9 @@ use Rattle.shown_state.proofs.SameTables.{created_is, ended_is}
 use Rattle.opening_steps.proofs.Closer.{commit_low, fold_max-each, fold_max-most, last_commit_low, state_low}
 use Rattle.opening_steps.proofs.Fitting.{still_fits, TransactionsFit}
 use Rattle.opening_steps.proofs.Idle.{ChangesOnly, MayChange, places}
-use Rattle.opening_steps.proofs.NoneNew.{entry_apart, entry_word as entry_is_own}
+use Rattle.opening_steps.proofs.NoneNew.{entry_apart, entry_word as entry_is_own, none_new}
 use Rattle.opening_steps.proofs.ObjectWords.{IsObjectWord, objects_keep_stamps, of_own, the_last}
+use Rattle.opening_steps.specs.QuietImages.{StaysQuiet}
 use Rattle.opening_steps.proofs.Objects.{entry_places_same}
 use Rattle.opening_steps.proofs.ReadRules.{objects_kept}
 use Rattle.opening_steps.proofs.Rows.{creator_at, ender_at, RowsAlike, rows_same}
@@ -393,10 +394,13 @@ module _ (old new : List ℕ) (object : ℕ) (image : IsImage old) (number : obj
     rows = λ table lt. rows_same old new same table lt fits.entry.arrays (alike table lt) (λ column is. values_same old new fits.entry.trees column is (same_tree old new same column is)) (fits.rows table lt);
   }
 
-  pub taken_fits : FitsStill old new
-  taken_fits = record {
-    fits = still_fits old new (IsUndoWord old) image fits clear may taken.only transactions;
-    shows = state_same old new same fits.entry.arrays fits.codes stamps fits.rows;
+  pub taken_stays : StaysQuiet old new
+  taken_stays = record {
+    still = record {
+      fits = still_fits old new (IsUndoWord old) image fits clear may taken.only transactions;
+      shows = state_same old new same fits.entry.arrays fits.codes stamps fits.rows;
+    };
+    quiet = none_new old new (IsUndoWord old) image fits clear may taken.only;
   }
     where
       stamps : StampsAlike old new

@@ -20,16 +20,17 @@ use Rattle.image_layout.proofs.OwnersApart.{all_from}
 use Rattle.image_layout.proofs.TableParts.{first_inner, second_inner}
 use Rattle.shown_state.specs.Fits.{Fits, is_undecided}
 use Rattle.shown_state.specs.Mending.{count_columns, version_mending}
-use Rattle.shown_state.specs.OpeningParts.{FitsStill, IsImage}
+use Rattle.shown_state.specs.OpeningParts.{IsImage}
 use Rattle.shown_state.specs.StepLaws.{AreClear, AreMended, VersionKeeps}
 use Rattle.shown_state.proofs.ReadsStand.{reads_keep_off}
 use Rattle.shown_state.proofs.ValuesApart.{at_behind}
-use Rattle.opening_steps.proofs.Closer.{closer_fits, IsCloser, last_same, undecided_same}
+use Rattle.opening_steps.specs.QuietImages.{StaysQuiet}
+use Rattle.opening_steps.proofs.Closer.{closer_stays, IsCloser, last_same, undecided_same}
 use Rattle.opening_steps.proofs.Idle.{ChangesOnly, KeepsStamps, MayChange, places}
 use Rattle.opening_steps.proofs.NoneNew.{entry_word, none_new}
 use Rattle.opening_steps.proofs.ObjectWords.{IsObjectWord, of_own, the_last}
 use Rattle.opening_steps.proofs.Objects.{entry_places_same}
-use Rattle.opening_steps.proofs.Steps.{step_by}
+use Rattle.opening_steps.proofs.Steps.{as_it_is, step_by, step_keeps, StepStays}
 use Rattle.opening_steps.proofs.Structure.{of_table, SamePlaces}
 use Rattle.opening_steps.proofs.Versions.{first_is, raised, same_version, second_is}
 use Rattle.opening_steps.proofs.VersionWords.{count_spot, IsVersionWord, object_or_version, of_count, the_version, versions_keep_stamps, versions_may_change}
@@ -74,8 +75,8 @@ module _ (words : List ℕ) (image : IsImage words) (fits : Fits words) (has : A
       undecided = λ object lt is. absurd (both_ways (is_undecided words object) (has.0.0.2 object lt) is);
     }
 
-    still : FitsStill words now
-    still = closer_fits words now (IsVersionWord words) image fits has.0.0.0 may stamps closer
+    still : StaysQuiet words now
+    still = closer_stays words now (IsVersionWord words) image fits has.0.0.0 may stamps closer
 
     same : SamePlaces words now
     same = places words now (IsVersionWord words) image fits has.0.0.0 may only
@@ -135,7 +136,7 @@ module _ (words : List ℕ) (image : IsImage words) (fits : Fits words) (has : A
       version = same_version (stage.version ∙ sym one);
     }
 
-    stage_still : (now : List ℕ) → IsStage now → FitsStill words now
+    stage_still : (now : List ℕ) → IsStage now → StaysQuiet words now
     stage_still now stage = still now (stage_only now stage)
 
     inside : (table : ℕ) → table < table_count words → at table < length words
@@ -193,7 +194,7 @@ module _ (words : List ℕ) (image : IsImage words) (fits : Fits words) (has : A
         version = raised one version_stored;
       }
 
-      upgraded_still : FitsStill words upgraded
+      upgraded_still : StaysQuiet words upgraded
       upgraded_still = still upgraded upgraded_only
 
       upgraded_mended : AreMended upgraded
@@ -203,21 +204,21 @@ module _ (words : List ℕ) (image : IsImage words) (fits : Fits words) (has : A
     parts_for left = map (count_columns words) left ++ one_store version_at 2 ∷ []
 
     each_cut : (left now : List ℕ) → ((table : ℕ) → Contains left table → table < table_count words) → IsStage now → Left now left
-        → EachCut (FitsStill words) (parts_for left) now × AreMended (finished (parts_for left) now)
+        → EachCut (StaysQuiet words) (parts_for left) now × AreMended (finished (parts_for left) now)
     each_cut [] now published stage said = (
-      (cut-one_store (FitsStill words) version_at 2 now (stage_still now stage) (upgraded_still now stage said), upgraded_still now stage said),
+      (cut-one_store (StaysQuiet words) version_at 2 now (stage_still now stage) (upgraded_still now stage said), upgraded_still now stage said),
       upgraded_mended now stage said,
     )
     each_cut (table ∷ left) now published stage rest =
         let lt = published table (Contains-here table left) in
         let next = next_stage now table lt stage in
         let later = each_cut left (set now (at table) (count table)) (λ other is. published other (Contains-there table other left is)) next (next_left now table left lt stage rest) in
-        ((cut-one_store (FitsStill words) (at table) (count table) now (stage_still now stage) (stage_still (set now (at table) (count table)) next), later.0), later.1)
+        ((cut-one_store (StaysQuiet words) (at table) (count table) now (stage_still now stage) (stage_still (set now (at table) (count table)) next), later.0), later.1)
 
     abbrev tables : List ℕ
     tables = below (table_count words)
 
-    all_cuts : EachCut (FitsStill words) (parts_for tables) words × AreMended (finished (parts_for tables) words)
+    all_cuts : EachCut (StaysQuiet words) (parts_for tables) words × AreMended (finished (parts_for tables) words)
     all_cuts = each_cut tables words (λ table is. Contains-below (table_count words) table is)
         (record { size = refl; each = λ w. inl refl; version = one }) (λ table lt. inl (below-Contains (table_count words) table lt))
 
@@ -233,8 +234,8 @@ module _ (words : List ℕ) (image : IsImage words) (fits : Fits words) (has : A
       let holds = All-head Holds (check version_at (eqb version 1 || eqb version 2)) [] rule.checks in
       eqb-true version 2 (⊎_elim (λ first. absurd (both_ways (is_first_version words) second first)) (λ two. two) (or_cases (eqb version 1) (eqb version 2) holds))
 
-pub version_keeps : VersionKeeps
-version_keeps words image fits has = ⊎_elim
+pub version_stays : (words : List ℕ) → IsImage words → Fits words → AreClear 16 words → StepStays AreMended version_mending words
+version_stays words image fits has = ⊎_elim
     (λ (hit : is_first_version words ≡ true).
     let one = eqb-true (get_or words version_at 0) 1 hit in
     let parts = map (count_columns words) (below (table_count words)) ++ one_store version_at 2 ∷ [] in
@@ -243,5 +244,8 @@ version_keeps words image fits has = ⊎_elim
     (all_stores words image fits has one (below (table_count words)) (λ table is. Contains-below (table_count words) table is)) cuts.0 cuts.1)
     (λ (miss : is_first_version words ≡ false).
     step_by AreMended version_mending words [] (cond-false (is_first_version words) (map (count_columns words) (below (table_count words)) ++ one_store version_at 2 ∷ []) [] miss) tt
-    (record { fits = fits; shows = refl }) (has, two_version words image fits has miss))
+    (as_it_is words fits has.0.0.0) (has, two_version words image fits has miss))
     (cases_Bool (is_first_version words))
+
+pub version_keeps : VersionKeeps
+version_keeps words image fits has = step_keeps AreMended version_mending words (version_stays words image fits has)

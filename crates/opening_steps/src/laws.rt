@@ -1,17 +1,23 @@
 // The laws of the steps of opening.
-ghost use Rattle.std.specs.Prelude.{ℕ, List};
+ghost use Rattle.std.specs.Prelude.{◌≡◌, ◌≤◌, ℕ, List, length, take};
 ghost use Rattle.image_layout.specs.SoundRules.{IsIntact};
+ghost use Rattle.pm_model.specs.Device.{IsCrashImage};
+ghost use Rattle.pm_model.specs.Plans.{at_rest, run};
 ghost use Rattle.shown_state.specs.Fits.{BeginFirst};
 ghost use Rattle.shown_state.specs.Mending.{version_mending};
-ghost use Rattle.shown_state.specs.OpeningParts.{IsImage, StepKeeps};
+ghost use Rattle.shown_state.specs.LogicalState.{logical_state};
+ghost use Rattle.shown_state.specs.OpeningParts.{IsImage, StepKeeps, opening_plan};
+ghost use Rattle.shown_state.specs.Recoverable.{IsRecoverable};
 ghost use Rattle.shown_state.specs.StepLaws.{
   AreMended,
   ClearsKeep,
   ClosesKeep,
   LastKeeps,
+  OpensStill,
   UndosKeep,
   VersionKeeps,
 };
+ghost use Rattle.opening_steps.specs.QuietImages.{IsQuiet};
 
 /// A law for proofs: each cut of the storing of the last commit's number keeps what fits together, and shows the same;
 /// behind it the last number is that of the last commit.
@@ -40,4 +46,16 @@ pub fn version_step_law()
     ensures step { VersionKeeps }
     ensures intact { (words : List ℕ) → IsImage words → IsIntact words → BeginFirst words
         → StepKeeps AreMended version_mending words }
+{}
+
+/// The law of opening where nothing is under way but transactions: no lane is at work, no split is logged, and no table
+/// and no text is half made; transactions may be in any state, and the version either one. Opening such an image goes
+/// on to its end, where it is sound and shows the same. A power cut after any of the actions leaves such an image
+/// again, which shows the same: so opening may be cut any number of times.
+pub fn quiet_opening_law()
+    ensures opens { (words : List ℕ) → IsQuiet words → OpensStill words }
+    ensures cuts { (words : List ℕ) (k : ℕ) (image : List ℕ) → IsQuiet words → k ≤ length (opening_plan words)
+        → IsCrashImage (run 0 (take k (opening_plan words)) (at_rest words)) image
+        → IsQuiet image × (logical_state image ≡ logical_state words) }
+    ensures recovers { (words : List ℕ) → IsQuiet words → IsRecoverable words }
 {}

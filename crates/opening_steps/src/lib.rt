@@ -11,9 +11,10 @@
 //!
 //! Calls, in the order of the steps: `last_number_law` (the last commit number), `undoing_law` (transactions that no
 //! commit has decided), `objects_law` (closing and clearing of transaction objects), `version_step_law` (from version 1
-//! to version 2). The steps before these, of lanes, splits, the table slot and texts, have no law yet.
+//! to version 2). The steps before these, of lanes, splits, the table slot and texts, have no law yet; where they have
+//! nothing to do, `quiet_opening_law` is about opening as a whole.
 #![tactic(auto)]
 
 mod laws;
 
-pub use laws::{last_number_law, objects_law, undoing_law, version_step_law};
+pub use laws::{last_number_law, objects_law, quiet_opening_law, undoing_law, version_step_law};
