@@ -1,16 +1,20 @@
 -- Images that are written out keep the rules: that of two commits and two later columns is sound, and that of version 1
 -- is intact.
-use Rattle.std.proofs.Common.{◌≡◌, ℕ, zero, suc, ◌<◌, [], length, refl, arith}
-use Rattle.std.specs.Prelude.{Some}
-use Rattle.std.proofs.lemmas.List.Elements.{All-cons, All-nil}
+use Rattle.std.proofs.Common.{◌≡◌, ℕ, zero, suc, ◌<◌, [], ◌++◌, length, map, refl, arith}
+use Rattle.std.specs.Prelude.{Contains, Some}
+use Rattle.std.specs.List.{flat_map}
+use Rattle.std.proofs.lemmas.List.Elements.{All-cons, All-nil, Contains-append_right}
 use Rattle.image_layout.specs.EntryRules.{KeepsEntryRules, arrays_rule, entries_rule, extension_checks, last_rule, magic_rule, name_checks, name_rule, object_rule, objects_rule, since_checks, table_count_rule, table_slot_rule, text_key_checks, text_key_rule, tree_checks, tree_rule, version_rule}
 use Rattle.image_layout.specs.HeapRules.{bitmap_rule, descriptor_rule, lane_rule, reserved_rule}
 use Rattle.image_layout.specs.SoundRules.{IsIntact, IsSound, fault, closed_rule, code_rule, column_slots, distinct_name_rule, fingerprint_checks, fingerprint_rule, given_back_rule, idle_rule, latest_version_rule, order_rule, owned_rule, owner_rule, row_code_rule, single_owner_rule, spare_slot_rule, split_log_rule, stamp_checks, stamp_rule, text_checks, text_rule}
 use Rattle.image_layout.specs.Arrays.{array_rule, chunk_of}
 use Rattle.image_layout.specs.Blocks.{blocks_of_page, is_inside}
-use Rattle.image_layout.specs.Objects.{entry_places}
-use Rattle.image_layout.specs.Owners.{column_owners, extension_owners, owner_words}
-use Rattle.image_layout.specs.Tables.{column_record, inner_columns, since_of}
+use Rattle.image_layout.specs.Objects.{entry_places, pointer_after}
+use Rattle.image_layout.specs.Owners.{column_owners, extension_owners, lane_targets, next_chunk_pointers, next_extension_pointers, owner_words, unfinished_slots}
+use Rattle.image_layout.specs.Tables.{all_columns, array_headers, column_record, inner_columns, since_of, table_block, table_count}
+use Rattle.image_layout.specs.Places.{below}
+use Rattle.image_layout.specs.Records.{new_leaf_at}
+use Rattle.image_layout.proofs.Members.{Contains-here}
 use Rattle.image_layout.specs.Trees.{key_below, key_fingerprint, leaf_list, leaf_pairs, leaves_from, pairs, text_at}
 use Rattle.image_layout.proofs.Faults.{all_hold}
 use Rattle.shown_state.specs.CommitLaws.{two_commit_image}
@@ -115,6 +119,27 @@ first_version_begins first (suc table) lt = absurd (no_more table lt)
   where
     no_more : (table : ℕ) → suc table < 1 → ⊥
     no_more table lt = omega (arith, lt)
+
+-- a lane may allocate the extension after the published columns
+pub next_extension_is_target : Contains (lane_targets two_commit_image) 4680
+unfolding two_commit_image inner_columns column_record leaf_list leaves_from
+next_extension_is_target =
+    let words = two_commit_image in
+    Contains-append_right (unfinished_slots words)
+    (flat_map (λ table. flat_map (next_chunk_pointers words) (array_headers words (table_block words table))) (below (table_count words))
+    ++ map new_leaf_at (all_columns words)
+    ++ map (pointer_after words) (below 16)
+    ++ flat_map (λ table. next_extension_pointers words (table_block words table)) (below (table_count words))) 4680
+    (Contains-append_right (flat_map (λ table. flat_map (next_chunk_pointers words) (array_headers words (table_block words table))) (below (table_count words)))
+    (map new_leaf_at (all_columns words)
+    ++ map (pointer_after words) (below 16)
+    ++ flat_map (λ table. next_extension_pointers words (table_block words table)) (below (table_count words))) 4680
+    (Contains-append_right (map new_leaf_at (all_columns words))
+    (map (pointer_after words) (below 16)
+    ++ flat_map (λ table. next_extension_pointers words (table_block words table)) (below (table_count words))) 4680
+    (Contains-append_right (map (pointer_after words) (below 16))
+    (flat_map (λ table. next_extension_pointers words (table_block words table)) (below (table_count words))) 4680
+    (Contains-here 4680 []))))
 
 -- an image of one segment
 pub first_version_is_image : IsImage first_version_image

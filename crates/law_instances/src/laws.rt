@@ -1,6 +1,7 @@
 // Laws whose premises are met over a formatted image, or over one that is written out, each the contract of a function that does nothing.
-ghost use Rattle.std.specs.Prelude.{◌≡◌, ℕ, ◌<◌, Some, [], ◌∷◌, List};
+ghost use Rattle.std.specs.Prelude.{◌≡◌, ℕ, ◌<◌, Contains, Some, [], ◌∷◌, List};
 ghost use Rattle.image_layout.specs.Fresh.{fresh_words};
+ghost use Rattle.image_layout.specs.Owners.{lane_targets};
 ghost use Rattle.image_layout.specs.SoundRules.{IsIntact, IsSound, fault};
 ghost use Rattle.mv_model.specs.declared.reply.Entry.{Entry as Answered};
 ghost use Rattle.mv_model.specs.declared.shape.Column.{Column};
@@ -68,10 +69,12 @@ pub fn consistency_law()
 
 /// Images that are written out keep the rules: that of two commits and two columns in extensions is sound; and that of
 /// version 1, which shows a table with a row, breaks none but that of the version, and what version 2 reads beside it is
-/// 0. So what the laws of opening's step to version 2 ask is met.
+/// 0. So what the laws of opening's step to version 2 ask is met. In the first a lane may allocate one more extension,
+/// into the pointer in the last one.
 pub fn written_images_law()
     ensures sound { IsSound two_commit_image }
     ensures shown { OneRowIsShown }
     ensures first { fault first_version_image ≡ Some (record { rule = 31; place = 513 }) }
     ensures intact { IsImage first_version_image × IsIntact first_version_image × BeginFirst first_version_image }
+    ensures next { Contains (lane_targets two_commit_image) 4680 }
 {}

@@ -1,4 +1,4 @@
-use Rattle.law_instances.proofs.WorkedImages.{first_version_begins, first_version_is_image, first_version_is_intact, first_version_is_old, first_version_is_shown, two_commits_are_sound}
+use Rattle.law_instances.proofs.WorkedImages.{first_version_begins, first_version_is_image, first_version_is_intact, first_version_is_old, first_version_is_shown, next_extension_is_target, two_commits_are_sound}
 use Rattle.law_instances.proofs.laws.written_images_law.Goals as goal
 
 pub returns : goal.returns
@@ -7,4 +7,5 @@ returns c = record {
   shown = first_version_is_shown;
   first = first_version_is_old;
   intact = (first_version_is_image, first_version_is_intact, first_version_begins);
+  next = next_extension_is_target;
 }
