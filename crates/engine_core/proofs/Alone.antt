@@ -11,8 +11,7 @@ use Rattle.engine_core.specs.Recoverable.{Fits}
 use Rattle.engine_core.specs.Survival.{IsLike, shown_commits}
 use Rattle.pm_model.proofs.Words.{ext_words}
 use Rattle.pm_model.proofs.PlanLaw.{plan_goes_on}
-use Rattle.pm_model.specs.ManyPlans.{Progress}
-use Rattle.side_by_side.specs.SideBySide.{Plans, left_of, advanced, begun, idle, with_plan, ArePlaying, HoldsAtEachCut, MayJoin, SurvivesBeside, without}
+use Rattle.side_by_side.specs.SideBySide.{Progress, Plans, left_of, advanced, begun, idle, with_plan, ArePlaying, HoldsAtEachCut, MayJoin, SurvivesBeside, without}
 use Rattle.side_by_side.specs.Standing.{stands}
 use Rattle.side_by_side.proofs.Changed.{survives_beside}
 use Rattle.side_by_side.proofs.Cutting.{holds-plays, playing-plays, with-elim, with-other, with-same}

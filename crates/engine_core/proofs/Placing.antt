@@ -11,8 +11,7 @@ use Rattle.image_layout.specs.Fixed.{last_at, commit_word_at}
 use Rattle.pm_model.specs.Plans.{Part, Play, IsPlaying, store, one_store, words_after, footprint, part_actions, plan_of, finished, lines_of, part_end}
 use Rattle.pm_model.proofs.Alone.{length-words_after}
 use Rattle.pm_model.proofs.PlanLaw.{footprint-append, plan_cached, words_after-kept, footprint-take}
-use Rattle.pm_model.specs.ManyPlans.{Progress}
-use Rattle.side_by_side.specs.SideBySide.{Plans, left_of, advanced, with_plan, ArePlaying}
+use Rattle.side_by_side.specs.SideBySide.{Progress, Plans, left_of, advanced, with_plan, ArePlaying}
 use Rattle.mv_model.specs.declared.call.Call.TheVariants as call
 use Rattle.mv_model.specs.declared.reply.Reply.TheVariants as reply
 use Rattle.engine_core.specs.CoreState.{IsAtFence, unanswered}

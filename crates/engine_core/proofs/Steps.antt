@@ -18,8 +18,7 @@ use Rattle.pm_model.specs.Plans.{Part, IsPlan, finished, part_actions, plan_of, 
 use Rattle.pm_model.proofs.Cuts.{each_cut-end}
 use Rattle.pm_model.proofs.Words.{ext_words}
 use Rattle.image_layout.specs.Fixed.{commit_word_at}
-use Rattle.pm_model.specs.ManyPlans.{Progress}
-use Rattle.side_by_side.specs.SideBySide.{Plans, left_of, advanced, ArePlaying, HoldsAtEachCut, without}
+use Rattle.side_by_side.specs.SideBySide.{Progress, Plans, left_of, advanced, ArePlaying, HoldsAtEachCut, without}
 use Rattle.side_by_side.proofs.Cutting.{can-act, holds-now}
 use Rattle.side_by_side.proofs.Joining.{holds-map}
 use Rattle.engine_core.specs.Actions.{late_in, plan_due}

@@ -10,8 +10,7 @@ use Rattle.pm_model.specs.declared.action.Action.{Action}
 use Rattle.pm_model.specs.Device.{Device}
 use Rattle.pm_model.specs.Plans.{at_rest, plan_of, run, words_after}
 use Rattle.image_layout.specs.Fixed.{commit_word_at}
-use Rattle.pm_model.specs.ManyPlans.{Progress}
-use Rattle.side_by_side.specs.SideBySide.{Plans, left_of, ArePlaying, HoldsAtEachCut}
+use Rattle.side_by_side.specs.SideBySide.{Progress, Plans, left_of, ArePlaying, HoldsAtEachCut}
 use Rattle.side_by_side.specs.Standing.{stands}
 use Rattle.engine_core.specs.LogicalState.{commit_count, commits_in, logical_state, next_row, state_of}
 use Rattle.engine_core.specs.StageRules.{IsStage}
