@@ -13,6 +13,7 @@ use Rattle.image_layout.specs.Owners.{Owner, word_of, array_owners, column_owner
 use Rattle.image_layout.specs.Checks.{check}
 use Rattle.image_layout.specs.SoundRules.{owner_rule, single_owner_rule, owned_rule, distinct_checks}
 use Rattle.image_layout.proofs.Members.{Contains-here, Contains-there, map-Contains, flat_map-Contains}
+use Rattle.image_rules.proofs.LeafWalk.{links_end}
 use Rattle.image_rules.specs.BuiltOwners.{built_column_owners, built_table_owners, built_owner_words, built_owner_rule, built_single_owner_rule, built_owned_rule, owned_check, HasEmptyTrees}
 
 -- one function for another, at the members of a list
@@ -64,7 +65,7 @@ module _ (words : List ℕ) (column : ℕ) (none : get_or words (first_leaf_at c
   unfolding column_owners
   column_same =
       let arrays : List Owner = array_owners words (codes_header column) ++ array_owners words (dictionary_header column) in
-      sym (append-nil arrays)
+      ap (λ (links : List ℕ). arrays ++ map leaf_owner links) (links_end words (length words) (first_leaf_at column) none)
       ∙ sym (append-nil (arrays ++ []))
       ∙ ap (λ (links : List ℕ). arrays ++ map leaf_owner links ++ []) (sym no_links)
       ∙ ap (λ (texts : List Owner). arrays ++ map leaf_owner (link_places words column) ++ texts) (sym no_texts)

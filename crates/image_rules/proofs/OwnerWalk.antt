@@ -10,12 +10,12 @@ use Rattle.std.proofs.lemmas.List.Folds.{flat_map-map}
 use Rattle.std.proofs.lemmas.List.FromFn.{map-range_with_len_more}
 use Rattle.image_layout.specs.Fixed.{table_slot_at}
 use Rattle.image_layout.specs.Places.{below}
-use Rattle.image_layout.specs.Records.{table_words, created_header, ended_header}
+use Rattle.image_layout.specs.Records.{table_words, codes_header, created_header, dictionary_header, ended_header}
 use Rattle.image_layout.specs.Tables.{column_count, column_record, extension_count, inner_columns, is_first_version, table_block, table_count}
-use Rattle.image_layout.specs.Owners.{Owner, owner_of, names_one, array_owners, extension_owner, extension_owners, object_owners}
+use Rattle.image_layout.specs.Owners.{Owner, owner_of, names_one, array_owners, extension_owner, extension_owners, leaf_owner, object_owners}
 use Rattle.image_layout.proofs.Ranges.{below_more}
 use Rattle.image_rules.specs.declared.owner_words.OwnerWord.{OwnerWord}
-use Rattle.image_rules.specs.BuiltOwners.{as_read, built_column_owners, built_block_owners, built_table_owners, built_owner_words}
+use Rattle.image_rules.specs.BuiltOwners.{as_read, leaf_links, built_column_owners, built_block_owners, built_table_owners, built_owner_words}
 
 module _ (words : List ℕ) where
   abbrev pub read : List Owner → List OwnerWord
@@ -74,6 +74,14 @@ module _ (words : List ℕ) where
   pub extensions_read : (block : ℕ) (base found : List OwnerWord) → is_first_version words ≡ false → found ≡ base ++ read (extensions_named block) → found ≡ base ++ read (extension_owners words block)
   unfolding extension_owners
   extensions_read block base found second here = here ∙ ap (λ (os : List Owner). base ++ read os) (sym (cond-false (is_first_version words) [] (extensions_named block) second))
+
+  -- ── a column ──
+
+  pub column_read : (column : ℕ) (base a b found : List OwnerWord) → a ≡ base ++ read (array_owners words (codes_header column)) → b ≡ a ++ read (array_owners words (dictionary_header column))
+      → found ≡ b ++ read (map leaf_owner (leaf_links words column)) → found ≡ base ++ read (built_column_owners words column)
+  column_read column base a b found codes dictionary leaves =
+      let arrays : List Owner = array_owners words (codes_header column) ++ array_owners words (dictionary_header column) in
+      read-append base b found arrays (map leaf_owner (leaf_links words column)) (read-append base a b (array_owners words (codes_header column)) (array_owners words (dictionary_header column)) codes dictionary) leaves
 
   -- ── a table ──
 

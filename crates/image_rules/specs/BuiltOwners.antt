@@ -1,31 +1,44 @@
--- The owner words of the parts of an image that are built: tables, arrays and transaction objects. The leaves of trees and
--- the texts of dictionaries join them with trees. Until then each column has an empty tree, and so none of either, and
--- these are all the owner words of the image, and the three rules here are those of the image.
-use Rattle.std.specs.Prelude.{◌≡◌, ℕ, ◌+◌, ◌-◌, ◌*◌, ◌/◌, Bool, ◌&&◌, ◌==◌, nat_lt, List, [], ◌∷◌, ◌++◌, map, filter, Contains, slice_index}
+-- The owner words of the parts of an image that are built: tables, arrays, the leaves of trees and transaction objects. The
+-- texts of dictionaries join them with dictionaries. Where each column's tree is empty, these are all the owner words of
+-- the image, and the three rules here are those of the image.
+use Rattle.std.specs.Prelude.{◌≡◌, ℕ, zero, suc, ◌+◌, ◌-◌, ◌*◌, ◌/◌, Bool, ◌&&◌, ◌==◌, nat_lt, if◌then◌else◌, List, [], ◌∷◌, ◌++◌, length, map, filter, Contains, slice_index}
 use Rattle.std.specs.List.{flat_map}
 use Rattle.std.specs.Int.{bit_at}
 use Rattle.std.specs.Ordering.{nat_cmp}
 use Rattle.std.specs.BTreeSet.{BTreeSet, contains}
 use Rattle.image_layout.specs.Pointer.{pointer_word}
-use Rattle.image_layout.specs.Places.{below}
-use Rattle.image_layout.specs.Records.{codes_header, created_header, dictionary_header, ended_header, first_leaf_at}
+use Rattle.image_layout.specs.Places.{below, is_pointer_to, place_in}
+use Rattle.image_layout.specs.Records.{codes_header, created_header, dictionary_header, ended_header, first_leaf_at, next_leaf_at}
 use Rattle.image_layout.specs.Blocks.{Block, slot_words, slots_of, slot_at, says_big, live_blocks}
 use Rattle.image_layout.specs.Tables.{table_count, table_block, columns_of, all_columns}
-use Rattle.image_layout.specs.Owners.{Owner, word_of, array_owners, extension_owners, table_owner, object_owners, owns_block}
+use Rattle.image_layout.specs.Owners.{Owner, word_of, array_owners, extension_owners, leaf_owner, table_owner, object_owners, owns_block}
 use Rattle.image_layout.specs.Checks.{Check, check, Rule}
 use Rattle.image_layout.specs.EntryRules.{is_among}
 use Rattle.image_layout.specs.SoundRules.{distinct_checks}
 use Rattle.image_rules.specs.declared.owner_words.OwnerWord.{OwnerWord}
 
+-- The places of the pointers to leaves, from one of them on, at most so many. A null pointer isn't one, and none follows
+-- one that doesn't name the words of a leaf's block.
+unfoldable pub links_from : List ℕ → ℕ → ℕ → List ℕ
+links_from words zero at = []
+links_from words (suc steps) at =
+    (if slice_index words at == 0 then []
+    else at ∷ (if is_pointer_to words 128 (slice_index words at) then links_from words steps (next_leaf_at (place_in (slice_index words at))) else []))
+
+-- those of a column's tree
+abbrev pub leaf_links : List ℕ → ℕ → List ℕ
+leaf_links words column = links_from words (length words) (first_leaf_at column)
+
 abbrev pub built_column_owners : List ℕ → ℕ → List Owner
-built_column_owners words column = array_owners words (codes_header column) ++ array_owners words (dictionary_header column)
+built_column_owners words column =
+    array_owners words (codes_header column) ++ array_owners words (dictionary_header column) ++ map leaf_owner (leaf_links words column)
 
 abbrev pub built_block_owners : List ℕ → ℕ → List Owner
 built_block_owners words block =
     extension_owners words block ++ array_owners words (created_header block) ++ array_owners words (ended_header block)
     ++ flat_map (built_column_owners words) (columns_of words block)
 
--- a table's slot, then the pointers to its extensions and to the chunks of its arrays
+-- a table's slot, then the pointers to its extensions, to the chunks of its arrays and to the leaves of its trees
 abbrev pub built_table_owners : List ℕ → ℕ → List Owner
 built_table_owners words table = table_owner words table ∷ built_block_owners words (table_block words table)
 

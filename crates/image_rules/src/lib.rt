@@ -7,8 +7,8 @@
 //!   rule.
 //! - `entry_fault` tries the rules of every image that a power cut can leave, in the order of their numbers.
 //! - `pointed_place`, `pointed_words` and `is_block_pointer` say what a word points to.
-//! - The rules of owner words are tried of tables, arrays and transaction objects: `built_owners_law` says that these
-//!   are all, where the tree of each column is empty.
+//! - The rules of owner words are tried of tables, arrays, leaves and transaction objects: `built_owners_law` says that
+//!   these are all, where the tree of each column is empty.
 //!
 //! State: none.
 //!

@@ -1,21 +1,23 @@
-// The owner words of tables, arrays and transaction objects, gathered in one walk.
+// The owner words of tables, arrays, leaves and transaction objects, gathered in one walk.
 ghost use Rattle.std.specs.Prelude.{◌≡◌, ◌+◌, ◌%◌, ◌<◌, ◌≤◌, ◌++◌, [], ◌∷◌, filter, map, IfOk, length, slice_index};
 ghost use Rattle.image_layout.specs.Tables as tables;
 ghost use Rattle.image_layout.specs.Blocks.{block_words as words_of_block};
-ghost use Rattle.image_layout.specs.Owners.{array_owners, extension_owners, names_one, object_owners, owner_of};
+ghost use Rattle.image_layout.specs.Owners.{array_owners, extension_owners, leaf_owner, names_one, object_owners, owner_of};
 ghost use Rattle.image_layout.specs.Checks.{Keeps};
 ghost use Rattle.image_layout.specs.EntryRules.{table_count_rule, table_slot_rule, objects_rule};
 ghost use Rattle.image_rules.specs.Parts.{IsTableBlock};
-ghost use Rattle.image_rules.specs.BuiltOwners.{as_read, built_column_owners, built_table_owners, built_owner_words};
+ghost use Rattle.image_rules.specs.BuiltOwners.{as_read, built_column_owners, built_table_owners, built_owner_words, leaf_links};
 
 use crate::entry_rules::{next_segment, ready_count};
 use crate::extensions::{column_record, columns_in_block, extension_pointer, is_first_version};
+use crate::layout::{LEAF_BLOCK_WORDS, LEAF_WORDS};
+use crate::pointers::pointed_words;
 use crate::table_rules::{columns_of, published_tables, table_block};
 use heap_small::{class_for, class_words};
 use pm_model::{
     ENTRY_SEGMENT_WORDS, EXTENSION_WORDS, MAX_CHUNKS, NoMemory, OBJECTS, PAGE_WORDS, Place,
     chunk_pointer, chunk_words, codes_header, created_header, dictionary_header, ended_header,
-    segment_pointer, table_slot, table_words,
+    first_leaf, segment_pointer, table_slot, table_words,
 };
 use std::alloc::Global;
 
@@ -27,8 +29,8 @@ pub(crate) struct OwnerWord {
     pub(crate) block_words: u32,
 }
 
-/// The owner words, in the order of the walk: table by table its slot, its extensions and the chunks of its arrays, and then
-/// object by object the pointers to its segments.
+/// The owner words, in the order of the walk: table by table its slot, its extensions, the chunks of its arrays and the
+/// leaves of its trees, and then object by object the pointers to its segments.
 pub(crate) fn owner_words(alloc: Global, words: &[u64]) -> Result<Vec<OwnerWord>, NoMemory>
     requires segments { length words.now % 32768 ≡ 0 }
     requires one_or_more { 32768 ≤ length words.now }
@@ -95,12 +97,40 @@ fn push_column_owners(
     words: &[u64],
     column: Place,
 ) -> Result<(), NoMemory>
+    requires segments { length words.now % 32768 ≡ 0 }
     requires most { length words.now ≤ 4194304 }
     requires within { column.0 + 40 ≤ length words.now }
     ensures { IfOk result (λ _. owners.new.items ≡ owners.old.items ++ map (as_read words.now) (built_column_owners words.now column.0)) }
 {
     push_array_owners(owners, words, codes_header(column))?;
-    push_array_owners(owners, words, dictionary_header(column))
+    push_array_owners(owners, words, dictionary_header(column))?;
+    push_leaf_owners(owners, words, column)
+}
+
+// The pointers to the leaves of a column's tree, for as long as they lead from one to the next.
+fn push_leaf_owners(
+    owners: &mut Vec<OwnerWord>,
+    words: &[u64],
+    column: Place,
+) -> Result<(), NoMemory>
+    requires segments { length words.now % 32768 ≡ 0 }
+    requires most { length words.now ≤ 4194304 }
+    requires within { column.0 + 40 ≤ length words.now }
+    ensures { IfOk result (λ _. owners.new.items ≡ owners.old.items ++ map (as_read words.now) (map leaf_owner (leaf_links words.now column.0))) }
+{
+    let mut pointer = first_leaf(column);
+    for step in 0..words.len() {
+        let word = words[pointer.0 as usize];
+        if word == 0 {
+            return Ok(());
+        }
+        push_owner(owners, words, pointer, LEAF_WORDS)?;
+        let Some(leaf) = pointed_words(words, word, LEAF_BLOCK_WORDS) else {
+            return Ok(());
+        };
+        pointer = Place(leaf + 1);
+    }
+    Ok(())
 }
 
 // The pointers to an array's published chunks, and the one after them where it names a block.

@@ -14,7 +14,7 @@ closing_rules = numbered 16 idle_rule ∷ numbered 17 next_slot_rule ∷ numbere
 abbrev pub rules_without_memory : List Numbered
 rules_without_memory = entry_rules ++ closing_rules
 
--- the owner words of tables, arrays and transaction objects
+-- the owner words of tables, arrays, leaves and transaction objects
 abbrev pub owner_rules : List Numbered
 owner_rules = numbered 19 built_owner_rule ∷ numbered 20 built_single_owner_rule ∷ numbered 21 built_owned_rule ∷ []
 

@@ -50,12 +50,17 @@ const TABLE: [Change; 6] = [
     (2062, 1),
 ];
 
+// The pointers to the second and the third slot of page 4.
+const LEAF: u64 = 4_294_969_480;
+
+const NEXT_LEAF: u64 = 4_294_969_608;
+
 // The pointer to the slot of page 6 as a page with one slot.
 const SEGMENT: u64 = 4_294_970_376;
 
 #[test]
 fn each_block_has_one_owner(rt: HostRuntime) -> Result<(), Fail> {
-    let cases: [(&[Change], Faults); 12] = [
+    let cases: [(&[Change], Faults); 18] = [
         (&[], [None, None, None]),
         (&[(4, 7)], [Some(520), None, None]),
         (&[(2048, 0)], [Some(520), None, None]),
@@ -79,6 +84,22 @@ fn each_block_has_one_owner(rt: HostRuntime) -> Result<(), Fail> {
         (
             &[(6, 7), (3072, 1), (1027, SEGMENT), (1091, SEGMENT)],
             [None, Some(1091), None],
+        ),
+        // The leaves of the column: the first one, and the one after it.
+        (&[(2048, 3), (2100, LEAF)], [None, None, None]),
+        (
+            &[(2048, 7), (2100, LEAF), (2185, NEXT_LEAF)],
+            [None, None, None],
+        ),
+        (&[(2100, LEAF)], [Some(2100), None, None]),
+        (&[(2048, 7), (2100, LEAF)], [None, None, Some(2312)]),
+        (
+            &[(2048, 3), (5, 17), (2100, LEAF), (2185, PAGE_5)],
+            [Some(2185), None, None],
+        ),
+        (
+            &[(2048, 3), (2100, LEAF), (2185, LEAF)],
+            [None, Some(2185), None],
         ),
     ];
     for (changes, faults) in cases {
