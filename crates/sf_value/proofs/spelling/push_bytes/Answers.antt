@@ -1,4 +1,4 @@
-use Rattle.std.proofs.Common.{◌≡◌, ◌++◌, ap, List, ℕ, get_or, ◌∙◌}
+use Rattle.std.proofs.Common.{◌++◌, ap, List, ℕ, get_or, ◌∙◌}
 use Rattle.sf_value.specs.Spelling.{spelled_byte}
 use Rattle.sf_value.proofs.Spelled.{kept-more, spelled-more}
 use Rattle.sf_value.proofs.spelling.push_bytes.Goals as goal

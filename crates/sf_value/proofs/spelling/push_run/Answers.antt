@@ -1,4 +1,4 @@
-use Rattle.std.proofs.Common.{◌≡◌, ◌++◌, ◌+◌, ap, length, take, get_or, ℕ, List, arith, eq-eqb, sym, ◌∙◌, le_refl}
+use Rattle.std.proofs.Common.{◌≡◌, ◌++◌, ◌+◌, ap, length, get_or, ℕ, List, arith, eq-eqb, sym, ◌∙◌, le_refl}
 use Rattle.std.specs.List.{flat_map}
 use Rattle.std.proofs.lemmas.List.{take_all}
 use Rattle.sf_value.specs.Spelling.{spelled_byte}
