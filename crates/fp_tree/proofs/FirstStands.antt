@@ -1,11 +1,11 @@
 -- The tree behind a first leaf.
-use Rattle.std.proofs.Common.{◌≡◌, ⊎_elim, ℕ, ◌+◌, ◌-◌, ◌^◌, ◌<◌, ◌%◌, ◌≤◌, Bool, true, cond, eqb, List, [], ◌∷◌, ◌++◌, length, get_or, map, refl, sym, ◌∙◌, ap, subst, arith}
-use Rattle.std.specs.Prelude.{filter, insert}
+use Rattle.std.proofs.Common.{◌≡◌, ⊎_elim, ℕ, ◌+◌, ◌-◌, ◌^◌, ◌%◌, ◌≤◌, Bool, cond, List, [], ◌∷◌, ◌++◌, length, get_or, map, refl, sym, ◌∙◌, ap, subst, arith}
+use Rattle.std.specs.Prelude.{insert}
 use Rattle.std.specs.Int.{bit_at}
 use Rattle.std.proofs.lemmas.Bool.{cases_Bool, ne_eqb}
 use Rattle.std.proofs.lemmas.Nat.Bits.{bit_at-zero}
 use Rattle.pm_model.specs.declared.action.Action.{Action}
-use Rattle.pm_model.specs.Plans.{Part, finished, plan_of, part_actions}
+use Rattle.pm_model.specs.Plans.{finished, plan_of, part_actions}
 use Rattle.pm_model.proofs.Cuts.{length-finished}
 use Rattle.std.proofs.lemmas.Grind.{flat_map-append}
 use Rattle.image_layout.specs.Pointer.{pointer_word}
@@ -16,16 +16,13 @@ use Rattle.heap_palloc.specs.Choice.{choice_parts}
 use Rattle.heap_palloc.specs.Index.{HeapIndex}
 use Rattle.shown_state.specs.Mending.{first_leaf_parts}
 use Rattle.fp_inner.specs.InnerState.{InnerState}
-use Rattle.fp_inner.specs.Keys.{kind_of, least_key}
 use Rattle.fp_inner.specs.declared.probe.Probe.{Probe}
 use Rattle.tree_cuts.specs.FirstLeaf.{MayStart, first_plan}
-use Rattle.tree_cuts.specs.Tree.{HasPrints}
 use Rattle.tree_cuts.proofs.Firsts.{start-away, start-bitmap, start-quiet, start-tree}
 use Rattle.tree_cuts.proofs.Lists.{filter-hit, filter-miss}
-use Rattle.tree_cuts.proofs.Reading.{list-quiet, quiet-no_split, tree-walks}
 use Rattle.fp_tree.specs.Changes.{MayGetFirst, new_leaf}
 use Rattle.fp_tree.specs.Planned.{IsFirstPlanned, IsLeafAllocated, MayPlanLeaf}
-use Rattle.fp_tree.specs.Standing.{IsIndexOf, StandsFor, has_pairs, indexed, leaf_of, or_first, room_in}
+use Rattle.fp_tree.specs.Standing.{StandsFor, has_pairs, indexed, leaf_of, or_first, room_in}
 use Rattle.fp_tree.specs.TreeState.{TreeState}
 use Rattle.fp_tree.specs.declared.room.Room.TheVariants.{Free, LeafFull}
 use Rattle.fp_tree.proofs.ChangesHold.{may_start}

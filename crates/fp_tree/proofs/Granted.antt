@@ -1,5 +1,5 @@
 -- The leaf that the heap chooses: its allocation writes no word of the tree, and the heap goes on behind the plan.
-use Rattle.std.proofs.Common.{◌≡◌, ◌≢◌, ◌⊎◌, inl, inr, ⊎_elim, ℕ, ◌+◌, ◌*◌, ◌/◌, ◌%◌, ◌<◌, ◌≤◌, true, false, not, leb, List, [], ◌∷◌, ◌++◌, length, get_or, refl, sym, ◌∙◌, ap, subst, arith}
+use Rattle.std.proofs.Common.{◌≡◌, ◌≢◌, ◌⊎◌, inl, inr, ⊎_elim, ℕ, ◌+◌, ◌%◌, ◌<◌, ◌≤◌, true, not, leb, List, length, get_or, sym, ◌∙◌, ap, subst, arith}
 use Rattle.std.specs.Prelude.{Contains}
 use Rattle.std.proofs.lemmas.Bool.{both_ways, and_from, cases_lt, not_from_false, le-leb}
 use Rattle.std.proofs.lemmas.List.{length-append}
@@ -16,7 +16,7 @@ use Rattle.image_layout.proofs.Heap.{live_blocks_apart}
 use Rattle.image_layout.proofs.OwnersApart.{live_behind}
 use Rattle.heap_big.specs.declared.run.Run.{Run}
 use Rattle.heap_small.specs.Bitmap.{with_bit}
-use Rattle.heap_palloc.specs.Calls.{IsAllocated, IsDest, KeepsHeapRules, MayCall}
+use Rattle.heap_palloc.specs.Calls.{IsAllocated, KeepsHeapRules, MayCall}
 use Rattle.heap_palloc.specs.Changes.{IsBeside, choice_lane, choice_owner}
 use Rattle.heap_palloc.specs.Choice.{Choice, in_page, on_new_page, in_run, IsChosen, IsThrough, MayMake, choice_block, choice_page, choice_parts}
 use Rattle.heap_palloc.specs.Index.{HeapIndex}

@@ -1,5 +1,5 @@
 -- The index after an insertion: the leaf of the key has one pair more, and its least key is the same.
-use Rattle.std.proofs.Common.{◌≡◌, ◌≢◌, ◌⊎◌, inl, inr, ⊎_elim, ℕ, zero, suc, ◌+◌, ◌^◌, ◌<◌, ◌≤◌, Bool, true, false, not, cond, eqb, List, [], ◌∷◌, ◌++◌, length, get_or, map, refl, sym, ◌∙◌, ap, subst, arith}
+use Rattle.std.proofs.Common.{◌≡◌, ◌⊎◌, inl, inr, ⊎_elim, ℕ, zero, suc, ◌+◌, ◌^◌, ◌<◌, ◌≤◌, Bool, true, false, not, cond, eqb, List, [], ◌∷◌, ◌++◌, length, get_or, map, refl, sym, ◌∙◌, ap, subst, arith}
 use Rattle.std.specs.Prelude.{Any, Option, filter}
 use Rattle.std.specs.Int.{bit_at}
 use Rattle.std.specs.List.{list_any, range_with_len}
@@ -11,12 +11,11 @@ use Rattle.heap_small.proofs.Bitmaps.{with_bit-same}
 use Rattle.heap_palloc.proofs.RulesKept.{with_bit-fits}
 use Rattle.pm_model.specs.Plans.{finished}
 use Rattle.image_layout.specs.Pointer.{pointer_word}
-use Rattle.image_layout.specs.Trees.{Pair, leaf_list, leaf_pairs, pair_at}
-use Rattle.fp_inner.specs.InnerState.{InnerState}
+use Rattle.image_layout.specs.Trees.{Pair, leaf_pairs, pair_at}
 use Rattle.fp_inner.specs.Keys.{is_below, least_key}
 use Rattle.fp_inner.specs.declared.probe.Probe.{Probe}
 use Rattle.fp_inner.specs.declared.probe.Probe.TheVariants.{Int}
-use Rattle.tree_cuts.specs.Insertion.{Insertion, Lead, MayInsert, insertion_parts, inserted_pair}
+use Rattle.tree_cuts.specs.Insertion.{Insertion, Lead, MayInsert, insertion_parts}
 use Rattle.tree_cuts.specs.Lists.{Each}
 use Rattle.tree_cuts.specs.Tree.{KeysBelow}
 use Rattle.tree_cuts.proofs.Inserting.{bitmap-done, insertion-prints, insertion-quiet, insertion-tree, others-done, own-has, used-done}
@@ -25,7 +24,7 @@ use Rattle.tree_cuts.proofs.Reading.{LeafIsSame}
 use Rattle.pm_model.specs.declared.action.Action.{Action}
 use Rattle.fp_tree.specs.Changes.{IsBetweenLeaves}
 use Rattle.fp_tree.specs.Inserted.{GoesOnInserted, IsKeyFor}
-use Rattle.fp_tree.specs.Standing.{IsIndexOf, IsLeastKey, IsSoundLeaf, IsSoundTree, StandsFor, has_key_up_to, has_pairs, indexed, is_key, last_up_to, leaf_of, or_first}
+use Rattle.fp_tree.specs.Standing.{IsIndexOf, IsLeastKey, IsSoundLeaf, StandsFor, has_key_up_to, has_pairs, indexed, is_key, last_up_to, leaf_of, or_first}
 use Rattle.fp_tree.specs.TreeState.{TreeState}
 use Rattle.fp_tree.proofs.Around.{each_any, each_at, each_indexed, not_below, ordered_indexed, pairwise_at}
 use Rattle.fp_tree.proofs.ChangesHold.{insertion_ordered}

@@ -1,16 +1,13 @@
 -- Where leaves have the same pairs, the index over them is the same.
-use Rattle.std.proofs.Common.{◌≡◌, ⊎_elim, ℕ, ◌^◌, ◌<◌, ◌≤◌, Bool, true, not, eqb, List, length, get_or, map, sym, ◌∙◌, ap, subst, arith}
+use Rattle.std.proofs.Common.{◌≡◌, ℕ, ◌^◌, ◌<◌, ◌≤◌, not, eqb, List, get_or, sym, ap, subst, arith}
 use Rattle.std.specs.Prelude.{Any, filter}
 use Rattle.std.specs.Int.{bit_at}
 use Rattle.std.proofs.lemmas.Bool.{eq-eqb, eqb-true}
-use Rattle.image_layout.specs.Pointer.{pointer_word}
 use Rattle.image_layout.specs.Trees.{Pair, leaf_pairs, pair_at}
-use Rattle.fp_inner.specs.InnerState.{InnerState}
 use Rattle.tree_cuts.specs.Lists.{Each}
 use Rattle.tree_cuts.proofs.Lists.{each-kept, each-map, filter-same}
 use Rattle.tree_cuts.proofs.Reading.{LeafIsSame}
-use Rattle.fp_tree.specs.Standing.{IsIndexOf, IsLeastKey, IsSoundLeaf, has_pairs, indexed, or_first}
-use Rattle.fp_tree.proofs.Around.{each_at, each_indexed}
+use Rattle.fp_tree.specs.Standing.{IsLeastKey, IsSoundLeaf, has_pairs}
 use Rattle.fp_tree.proofs.Chosen.{slots_each}
 
 -- the codes of a leaf as those of its pairs

@@ -1,7 +1,6 @@
 -- The index after a split: the new leaf stands behind the one that was split.
-use Rattle.std.proofs.Common.{◌≡◌, ◌≢◌, ◌⊎◌, inl, inr, ⊎_elim, ℕ, zero, suc, ◌+◌, ◌-◌, ◌^◌, ◌<◌, ◌≤◌, Bool, true, false, not, cond, eqb, ltb, List, [], ◌∷◌, ◌++◌, length, get_or, map, take, drop, refl, sym, ◌∙◌, ap, subst, arith}
+use Rattle.std.proofs.Common.{◌≡◌, ◌≢◌, ◌⊎◌, inl, inr, ⊎_elim, ℕ, zero, suc, ◌+◌, ◌-◌, ◌^◌, ◌<◌, ◌≤◌, Bool, true, false, cond, eqb, ltb, List, [], ◌∷◌, ◌++◌, length, get_or, map, take, drop, refl, sym, ◌∙◌, ap, subst, arith}
 use Rattle.std.specs.Prelude.{Any, filter, insert}
-use Rattle.std.specs.Int.{bit_at}
 use Rattle.std.proofs.lemmas.Bool.{cases_Bool, cases_eq, cases_lt, le-ltb, lt-ltb, ne_eqb, not_from_false}
 use Rattle.std.proofs.lemmas.List.{length-append, map-append}
 use Rattle.std.proofs.lemmas.List.Edits.{get_or-insert_above, get_or-insert_at, get_or-insert_below, length-insert}
@@ -30,7 +29,7 @@ use Rattle.fp_tree.specs.TreeState.{TreeState}
 use Rattle.fp_tree.proofs.Around.{each_any, each_at, each_indexed, pairwise_at, pairwise_indexed}
 use Rattle.fp_tree.proofs.Chosen.{any_here, any_there, pointer_at, room_is, size}
 use Rattle.fp_tree.proofs.Search.{int_probe}
-use Rattle.fp_tree.proofs.IndexKept.{codes_each, filtered_same, has_same, least_same, sound_from, sound_same}
+use Rattle.fp_tree.proofs.IndexKept.{codes_each, filtered_same, least_same, sound_from, sound_same}
 
 -- ── lists ──
 

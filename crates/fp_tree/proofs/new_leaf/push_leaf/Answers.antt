@@ -1,5 +1,4 @@
-use Rattle.std.proofs.Common.{◌+◌, ◌≤◌, ◌∙◌, ℕ, List, length, get_or, ap, arith, subst, sym}
-use Rattle.image_layout.specs.Records.{new_leaf_at}
+use Rattle.std.proofs.Common.{ℕ, List, arith, subst, sym}
 use Rattle.heap_palloc.specs.Calls.{IsAllocated, MayCall}
 use Rattle.fp_tree.proofs.Granted.{few_actions, may_call, record_within}
 use Rattle.fp_tree.proofs.new_leaf.push_leaf.Goals as goal

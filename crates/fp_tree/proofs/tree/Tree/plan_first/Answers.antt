@@ -1,4 +1,4 @@
-use Rattle.std.proofs.Common.{◌≡◌, ◌+◌, ◌≤◌, ◌<◌, ◌∙◌, ℕ, List, length, get_or, ap, arith, subst, sym}
+use Rattle.std.proofs.Common.{◌∙◌, ℕ, List, length, ap, arith}
 use Rattle.std.specs.Prelude.{insert}
 use Rattle.image_layout.specs.Pointer.{pointer_word}
 use Rattle.fp_tree.specs.TreeState.{TreeState}
