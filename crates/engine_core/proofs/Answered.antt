@@ -57,8 +57,8 @@ begin-takes words begun said is =
 pub close-takes : (words : List ℕ) (begun : ℕ) (own : Running) → own.rows ≡ 0
     → TakesMemory (state_of words (record { begun = begun; running = Some own })) (answer (state_of words (record { begun = begun; running = Some own })) 1 call.Commit)
 close-takes words begun own none =
-    let now : state_of words (record { begun = begun; running = Some own }) ≡ state_of words (record { begun = begun; running = Some (record { number = own.number; rows = 0 }) }) =
-    ap (λ (r : ℕ). state_of words (record { begun = begun; running = Some (record { number = own.number; rows = r }) })) none in
+    let now : state_of words (record { begun = begun; running = Some own }) ≡ state_of words (record { begun = begun; running = Some (record { number = own.number; snapshot = own.snapshot; rows = 0 }) }) =
+    ap (λ (r : ℕ). state_of words (record { begun = begun; running = Some (record { number = own.number; snapshot = own.snapshot; rows = r }) })) none in
     subst (λ (s : State). TakesMemory s (answer s 1 call.Commit)) (sym now) refl
 
 pub commit-takes : (words : List ℕ) (begun : ℕ) (own : Running) → 0 < own.rows → get_or words last_at 0 < MAX_COMMITS
@@ -67,7 +67,7 @@ commit-takes words begun own some few =
     let count = length-rows_from words (get_or words high_at 0) own.rows in
     let commits = length-commits_in words (get_or words last_at 0) in
     subst (λ (given : Reply). TakesMemory (state_of words (record { begun = begun; running = Some own })) given)
-    (sym (commit-answer (get_or words high_at 0 + own.rows) (commits_in words (get_or words last_at 0)) begun own.number (get_or words last_at 0) (rows_from words (get_or words high_at 0) own.rows)
+    (sym (commit-answer (get_or words high_at 0 + own.rows) (commits_in words (get_or words last_at 0)) begun own.number own.snapshot (rows_from words (get_or words high_at 0) own.rows)
     (omega (arith, count, some)) (omega (arith, commits, few)))) refl
 
 -- no transaction is open
@@ -97,7 +97,7 @@ already words begun own said stage is =
     (refused words (record { begun = begun; running = Some own }) call.Begin reply.AlreadyOpen stage refl refl tt refl tt)
 
 -- a row past the table's is not seen
-pub unseen-past : (words : List ℕ) (own : Running) (row : ℕ) → IsStage words (Some own) → 4096 ≤ row → is_seen words own.rows row ≡ false
+pub unseen-past : (words : List ℕ) (own : Running) (row : ℕ) → IsStage words (Some own) → 4096 ≤ row → is_seen words own row ≡ false
 unseen-past words own row stage past =
     let room = stage.room in
     let is_row : within 0 4096 row ≡ false = and_right _ _ (le-ltb row 4096 past) in
@@ -111,7 +111,7 @@ spent words begun own stage some many =
     let count = length-rows_from words (get_or words high_at 0) own.rows in
     let commits = length-commits_in words (get_or words last_at 0) in
     refused words (record { begun = begun; running = Some own }) call.Commit reply.Spent stage
-    (sym (commit-spent (get_or words high_at 0 + own.rows) (commits_in words (get_or words last_at 0)) begun own.number (get_or words last_at 0) (rows_from words (get_or words high_at 0) own.rows)
+    (sym (commit-spent (get_or words high_at 0 + own.rows) (commits_in words (get_or words last_at 0)) begun own.number own.snapshot (rows_from words (get_or words high_at 0) own.rows)
     (omega (arith, count, some)) (omega (arith, commits, many)))) refl tt refl tt
 
 -- the end of a transaction that wrote nothing
@@ -119,7 +119,7 @@ pub closes : {E : Type 0} (words : List ℕ) (begun : ℕ) (own : Running) (made
     → IfOk made (λ decision. IsDecision words (record { begun = begun; running = Some own }) call.Commit decision)
 closes words begun own (Err error) stage none closed = tt
 closes words begun own (Ok decision) stage none closed =
-    let decided = close-decided words begun own.number own.rows stage (left_of decision.plan) none closed.plan (omega (arith, closed.actions)) in
+    let decided = close-decided words begun own.number own.snapshot own.rows stage (left_of decision.plan) none closed.plan (omega (arith, closed.actions)) in
     record {
       copied = closed.copied;
       decided = rw (closed.reply, closed.after, closed.late) decided;

@@ -91,7 +91,7 @@ is-cleared first (suc n) w hit = ⊎_elim
 pub within-hit : (first count w : ℕ) → first ≤ w → w < first + count → within first count w ≡ true
 within-hit first count w low high = and_from (leb first w) (ltb w (first + count)) (le-leb first w low) (lt-ltb w (first + count) high)
 
-module _ (base : List ℕ) (begun number rows high last : ℕ) (stage : IsStage base (Some (record { number = number; rows = rows })))
+module _ (base : List ℕ) (begun number snapshot rows high last : ℕ) (stage : IsStage base (Some (record { number = number; snapshot = snapshot; rows = rows })))
     (is_high : get_or base high_at 0 ≡ high) (is_last : get_or base last_at 0 ≡ last) (some : 0 < rows) (room : last < MAX_COMMITS) where
   entries : HasEntries base high rows
   entries = subst (λ (h : ℕ). HasEntries base h rows) is_high (record { few = stage.few; room = stage.room; entries = stage.entries; free = stage.free })

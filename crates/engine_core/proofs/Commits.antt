@@ -78,7 +78,7 @@ commit_of-interval base image first count number within own other ended values =
     ends : rows_where (λ row. eqb (get_or image (ended_at row) 0) number) ≡ []
     ends = rows_where-none (λ row. eqb (get_or image (ended_at row) 0) number) (λ row lt. ne_eqb (get_or image (ended_at row) 0) number (ended row lt))
 
-module _ (words : List ℕ) (begun number rows high last : ℕ) (stage : IsStage words (Some (record { number = number; rows = rows })))
+module _ (words : List ℕ) (begun number snapshot rows high last : ℕ) (stage : IsStage words (Some (record { number = number; snapshot = snapshot; rows = rows })))
     (is_high : get_or words high_at 0 ≡ high) (is_last : get_or words last_at 0 ≡ last) (some : 0 < rows) (room : last < MAX_COMMITS) where
   size : 32768 ≤ length words
   size = stage.size
@@ -210,6 +210,7 @@ module _ (words : List ℕ) (begun number rows high last : ℕ) (stage : IsStage
   commit-stage = record {
     size = let l = length-idle in let m = length-words_after (clear_part 0 rows true) idle in let s = size in omega (arith, l, m, s);
     last = let l = new_last in omega (arith, l, room);
+    reads = omega arith;
     few = omega arith;
     room = let h = new_high in let r = within in omega (arith, h, r);
     born = λ row lt. let l = new_last in ⊎_elim
@@ -256,7 +257,7 @@ module _ (words : List ℕ) (begun number rows high last : ℕ) (stage : IsStage
       )
 
   pub commit-decided : (commit : ℕ) (actions : List Action) → commit ≡ last + 1 → actions ≡ plan_of (commit_parts high rows commit) → length actions ≤ 400
-      → IsDecided words (record { begun = begun; running = Some (record { number = number; rows = rows }) }) call.Commit (reply.Committed commit) actions (record { begun = begun; running = None })
+      → IsDecided words (record { begun = begun; running = Some (record { number = number; snapshot = snapshot; rows = rows }) }) call.Commit (reply.Committed commit) actions (record { begun = begun; running = None })
   commit-decided commit actions is_commit is_actions short =
       let five_is : commit_parts high rows commit ≡ five high rows (last + 1) = ap (commit_parts high rows) is_commit ∙ commit_parts-five high rows (last + 1) in
       let plan_is : actions ≡ plan_of (five high rows (last + 1)) = is_actions ∙ ap plan_of five_is in
@@ -265,17 +266,17 @@ module _ (words : List ℕ) (begun number rows high last : ℕ) (stage : IsStage
       let commits = commits_in words last in
       let count = length-rows_from words high rows in
       let many = length-commits_in words last in
-      let before = state_with words begun number rows high last commits created is_high is_last refl refl in
+      let before = state_with words begun number snapshot rows high last commits created is_high is_last refl refl in
       let same : high + rows ≡ high + rows + 0 = omega arith in
       let first_is : high ≡ get_or words high_at 0 + rows - rows = omega (arith, is_high) in
       record {
-        allowed = subst (λ (s : State). IsAllowed s 1 call.Commit (reply.Committed commit)) (sym before) (sym (commit-answer (high + rows) commits begun number last created (omega (arith, count, some)) (omega (arith, many, room)) ∙ ap (λ (n : ℕ). reply.Committed n) (ap (λ (n : ℕ). n + 1) many ∙ sym is_commit)));
+        allowed = subst (λ (s : State). IsAllowed s 1 call.Commit (reply.Committed commit)) (sym before) (sym (commit-answer (high + rows) commits begun number snapshot created (omega (arith, count, some)) (omega (arith, many, room)) ∙ ap (λ (n : ℕ). reply.Committed n) (ap (λ (n : ℕ). n + 1) many ∙ sym is_commit)));
         parts = five high rows (last + 1);
         plan = commit-plan;
         plan_is = plan_is;
         state =
             ap (λ (s : State). next s 1 call.Commit (reply.Committed commit)) before
-            ∙ commit-next (high + rows) commits begun number last created commit
+            ∙ commit-next (high + rows) commits begun number snapshot created commit
             ∙ ap (λ (n : ℕ). state_by n (commits ++ record { created = created; ended = [] } ∷ []) begun None) same
             ∙ sym (state_without cleared begun (high + rows) (last + 1) (commits ++ record { created = created; ended = [] } ∷ []) new_high new_last commit-commits)
             ∙ ap (λ (new : List ℕ). state_of new (record { begun = begun; running = None })) (sym after);
@@ -290,7 +291,7 @@ module _ (words : List ℕ) (begun number rows high last : ℕ) (stage : IsStage
 
   -- so many of its actions come after the fence that makes it certain
   pub commit-timed : (commit late : ℕ) → late ≡ length (plan_of (commit_late rows commit))
-      → IsLateIn (state_of words (record { begun = begun; running = Some (record { number = number; rows = rows }) })) (Some (record { number = commit; left = late }))
+      → IsLateIn (state_of words (record { begun = begun; running = Some (record { number = number; snapshot = snapshot; rows = rows }) })) (Some (record { number = commit; left = late }))
   commit-timed commit late is_late = is_late ∙ ap (λ (n : ℕ). length (plan_of (commit_late n commit))) (sym (length-rows_from words (get_or words high_at 0) rows))
 
 -- ── the end of a transaction that wrote nothing ──
@@ -299,32 +300,32 @@ pub close_parts-one : close_parts ≡ one_store (state_at 0) 0 ∷ []
 unfolding clear_part
 close_parts-one = refl
 
-pub close-decided : (words : List ℕ) (begun number rows : ℕ) (stage : IsStage words (Some (record { number = number; rows = rows }))) (actions : List Action) → rows ≡ 0 → actions ≡ plan_of close_parts → length actions ≤ 400
-    → IsDecided words (record { begun = begun; running = Some (record { number = number; rows = rows }) }) call.Commit reply.ReadOnly actions (record { begun = begun; running = None })
-close-decided words begun number rows stage actions none is_actions short =
+pub close-decided : (words : List ℕ) (begun number snapshot rows : ℕ) (stage : IsStage words (Some (record { number = number; snapshot = snapshot; rows = rows }))) (actions : List Action) → rows ≡ 0 → actions ≡ plan_of close_parts → length actions ≤ 400
+    → IsDecided words (record { begun = begun; running = Some (record { number = number; snapshot = snapshot; rows = rows }) }) call.Commit reply.ReadOnly actions (record { begun = begun; running = None })
+close-decided words begun number snapshot rows stage actions none is_actions short =
     let high = get_or words high_at 0 in
     let last = get_or words last_at 0 in
     let commits = commits_in words last in
     let plan_is : actions ≡ plan_of (one_store (state_at 0) 0 ∷ []) = is_actions ∙ ap plan_of close_parts-one in
     let new = words_after (one_store (state_at 0) 0) words in
     let after : words_after actions words ≡ words_after (one_store (state_at 0) 0) words = ap (λ (xs : List Action). words_after xs words) plan_is ∙ words_after-plan (one_store (state_at 0) 0 ∷ []) words in
-    let before : state_of words (record { begun = begun; running = Some (record { number = number; rows = rows }) }) ≡ state_by (high + 0) commits begun (Some (creating number last [])) =
-    ap (λ (r : ℕ). state_of words (record { begun = begun; running = Some (record { number = number; rows = r }) })) none in
+    let before : state_of words (record { begun = begun; running = Some (record { number = number; snapshot = snapshot; rows = rows }) }) ≡ state_by (high + 0) commits begun (Some (creating number snapshot [])) =
+    ap (λ (r : ℕ). state_of words (record { begun = begun; running = Some (record { number = number; snapshot = snapshot; rows = r }) })) none in
     record {
-      allowed = subst (λ (s : State). IsAllowed s 1 call.Commit reply.ReadOnly) (sym before) (sym (commit-none (high + 0) commits begun number last));
+      allowed = subst (λ (s : State). IsAllowed s 1 call.Commit reply.ReadOnly) (sym before) (sym (commit-none (high + 0) commits begun number snapshot));
       parts = one_store (state_at 0) 0 ∷ [];
       plan = (store_part (length words) (state_at 0) 0 (let s = stage.size in omega (arith, s)), tt);
       plan_is = plan_is;
       state =
           ap (λ (s : State). next s 1 call.Commit reply.ReadOnly) before
-          ∙ close-next (high + 0) commits begun (Some (creating number last []))
+          ∙ close-next (high + 0) commits begun (Some (creating number snapshot []))
           ∙ sym (state_without (words_after (one_store (state_at 0) 0) words) begun high last commits (switched words 0 high_at (λ e. omega (arith, e))) (switched words 0 last_at (λ e. omega (arith, e)))
           (commits_in-same last words (words_after (one_store (state_at 0) 0) words) (switch-same words 0)))
           ∙ ap (λ (xs : List ℕ). state_of xs (record { begun = begun; running = None })) (sym after);
       full = tt;
       memory = tt;
       planned = is_actions;
-      stage = rw after (switch-stage words 0 (Some (record { number = number; rows = rows })) None stage none refl refl);
+      stage = rw after (switch-stage words 0 (Some (record { number = number; snapshot = snapshot; rows = rows })) None stage none refl (omega arith) refl);
       short = short;
       begun = omega arith;
     }

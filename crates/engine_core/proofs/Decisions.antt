@@ -24,7 +24,7 @@ use Rattle.engine_core.specs.StageRules.{IsStage, state_word}
 use Rattle.engine_core.specs.Served.{insert_of}
 use Rattle.engine_core.specs.Actions.{plan_due}
 use Rattle.engine_core.specs.Decided.{IsDecided, IsFullWhere, IsNoMemoryWhere, TakesMemory}
-use Rattle.engine_core.specs.LogicalState.{commits_in, created_row, integer_of, key_of, key_word_of, rows_from, rows_of, state_by, state_of}
+use Rattle.engine_core.specs.LogicalState.{commits_in, created_row, integer_of, key_of, key_word_of, rows_from, rows_of, snapshot_of, state_by, state_of}
 use Rattle.engine_core.specs.declared.transactions.Transactions.{Transactions}
 use Rattle.engine_core.specs.declared.transactions.Running.{Running}
 use Rattle.engine_core.proofs.Rows.{IsSameUpTo, commits_in-same, rows_from-same, rows_from-more, length-rows_from, length-commits_in}
@@ -50,14 +50,14 @@ refused words now call given stage allowed same full planned memory = record {
 }
 
 -- what the words stand for, part by part
-pub state_with : (new : List ℕ) (begun number rows high last : ℕ) (commits : List WriteSet) (created : List CreatedRow)
+pub state_with : (new : List ℕ) (begun number snapshot rows high last : ℕ) (commits : List WriteSet) (created : List CreatedRow)
     → get_or new high_at 0 ≡ high → get_or new last_at 0 ≡ last → commits_in new last ≡ commits → rows_from new high rows ≡ created
-    → state_of new (record { begun = begun; running = Some (record { number = number; rows = rows }) }) ≡ state_by (high + rows) commits begun (Some (creating number last created))
-state_with new begun number rows high last commits created is_high is_last is_commits is_created =
-    ap (λ (h : ℕ). state_by (h + rows) (commits_in new (get_or new last_at 0)) begun (Some (creating number (get_or new last_at 0) (rows_from new h rows)))) is_high
-    ∙ ap (λ (l : ℕ). state_by (high + rows) (commits_in new l) begun (Some (creating number l (rows_from new high rows)))) is_last
-    ∙ ap (λ (c : List WriteSet). state_by (high + rows) c begun (Some (creating number last (rows_from new high rows)))) is_commits
-    ∙ ap (λ (c : List CreatedRow). state_by (high + rows) commits begun (Some (creating number last c))) is_created
+    → state_of new (record { begun = begun; running = Some (record { number = number; snapshot = snapshot; rows = rows }) }) ≡ state_by (high + rows) commits begun (Some (creating number snapshot created))
+state_with new begun number snapshot rows high last commits created is_high is_last is_commits is_created =
+    ap (λ (h : ℕ). state_by (h + rows) (commits_in new (get_or new last_at 0)) begun (Some (creating number snapshot (rows_from new h rows)))) is_high
+    ∙ ap (λ (l : ℕ). state_by (high + rows) (commits_in new l) begun (Some (creating number snapshot (rows_from new high rows)))) is_last
+    ∙ ap (λ (c : List WriteSet). state_by (high + rows) c begun (Some (creating number snapshot (rows_from new high rows)))) is_commits
+    ∙ ap (λ (c : List CreatedRow). state_by (high + rows) commits begun (Some (creating number snapshot c))) is_created
 
 pub state_without : (new : List ℕ) (begun high last : ℕ) (commits : List WriteSet)
     → get_or new high_at 0 ≡ high → get_or new last_at 0 ≡ last → commits_in new last ≡ commits
@@ -80,14 +80,15 @@ module _ (words : List ℕ) (value : ℕ) where
     value = λ row lt low high. switched (value_at row) (λ e. omega (arith, e));
   }
 
-  pub switch-stage : (old new : Option Running) → IsStage words old → rows_of old ≡ 0 → rows_of new ≡ 0 → state_word new ≡ value → IsStage (words_after (one_store (state_at 0) value) words) new
-  switch-stage old new stage none_old none_new is_value =
+  pub switch-stage : (old new : Option Running) → IsStage words old → rows_of old ≡ 0 → rows_of new ≡ 0 → snapshot_of new ≤ get_or words last_at 0 → state_word new ≡ value → IsStage (words_after (one_store (state_at 0) value) words) new
+  switch-stage old new stage none_old none_new few_read is_value =
       let high = switched high_at (λ e. omega (arith, e)) in
       let last = switched last_at (λ e. omega (arith, e)) in
       let born = λ (row : ℕ). switched (born_at row) (λ e. omega (arith, e)) in
       record {
         size = let size = length-words_after (one_store (state_at 0) value) words in let old = stage.size in omega (arith, size, old);
         last = let old = stage.last in omega (arith, last, old);
+        reads = omega (arith, last, few_read);
         few = omega (arith, none_new);
         room = let old = stage.room in omega (arith, high, old, none_new);
         born = λ row lt. ⊎_elim (λ (le : get_or words (born_at row) 0 ≤ get_or words last_at 0). inl (let b = born row in omega (arith, b, le, last))) (λ dead. inr (born row ∙ dead)) (stage.born row lt);
@@ -103,14 +104,14 @@ module _ (words : List ℕ) (value : ℕ) where
 -- ── begin ──
 
 module _ (words : List ℕ) (begun : ℕ) (stage : IsStage words None) where
-  begin-state : state_of (words_after (one_store (state_at 0) 1) words) (record { begun = begun + 1; running = Some (record { number = begun + 1; rows = 0 }) })
+  begin-state : state_of (words_after (one_store (state_at 0) 1) words) (record { begun = begun + 1; running = Some (record { number = begun + 1; snapshot = get_or words last_at 0; rows = 0 }) })
       ≡ state_by (get_or words high_at 0 + 0) (commits_in words (get_or words last_at 0)) (begun + 1) (Some (creating (begun + 1) (get_or words last_at 0) []))
-  begin-state = state_with (words_after (one_store (state_at 0) 1) words) (begun + 1) (begun + 1) 0 (get_or words high_at 0) (get_or words last_at 0) (commits_in words (get_or words last_at 0)) []
+  begin-state = state_with (words_after (one_store (state_at 0) 1) words) (begun + 1) (begun + 1) (get_or words last_at 0) 0 (get_or words high_at 0) (get_or words last_at 0) (commits_in words (get_or words last_at 0)) []
       (switched words 1 high_at (λ e. omega (arith, e))) (switched words 1 last_at (λ e. omega (arith, e)))
       (commits_in-same (get_or words last_at 0) words (words_after (one_store (state_at 0) 1) words) (switch-same words 1)) refl
 
   pub begin-decided : (number snapshot : ℕ) (actions : List Action) → number ≡ begun + 1 → snapshot ≡ get_or words last_at 0 → actions ≡ plan_of (begin_parts 0) → length actions ≤ 400
-      → IsDecided words (record { begun = begun; running = None }) call.Begin (reply.Began number snapshot) actions (record { begun = number; running = Some (record { number = number; rows = 0 }) })
+      → IsDecided words (record { begun = begun; running = None }) call.Begin (reply.Began number snapshot) actions (record { begun = number; running = Some (record { number = number; snapshot = snapshot; rows = 0 }) })
   begin-decided number snapshot actions is_number is_snapshot is_actions short =
       let after : words_after actions words ≡ words_after (one_store (state_at 0) 1) words = ap (λ (xs : List Action). words_after xs words) is_actions ∙ words_after-plan (begin_parts 0) words in
       let commits = commits_in words (get_or words last_at 0) in
@@ -124,14 +125,14 @@ module _ (words : List ℕ) (begun : ℕ) (stage : IsStage words None) where
         full = tt;
         memory = tt;
         planned = is_actions;
-        stage = rw after (switch-stage words 1 None (Some (record { number = begun + 1; rows = 0 })) stage refl refl refl);
+        stage = rw (is_snapshot, after) (switch-stage words 1 None (Some (record { number = begun + 1; snapshot = get_or words last_at 0; rows = 0 })) stage refl refl (omega arith) refl);
         short = short;
         begun = omega arith;
       })
 
 -- ── insert ──
 
-module _ (words : List ℕ) (begun number rows : ℕ) (stage : IsStage words (Some (record { number = number; rows = rows }))) (row word : ℕ)
+module _ (words : List ℕ) (begun number snapshot rows : ℕ) (stage : IsStage words (Some (record { number = number; snapshot = snapshot; rows = rows }))) (row word : ℕ)
     (is_row : row ≡ get_or words high_at 0 + rows) (few : rows < 60) (fewer : row < 4096) where
   with_entry : List ℕ
   with_entry = words_after (one_store (entry_at 0 rows) (entry_word (created_entry row))) words
@@ -169,15 +170,15 @@ module _ (words : List ℕ) (begun number rows : ℕ) (stage : IsStage words (So
       ∙ ap (λ (k : ℕ). rows_from words (get_or words high_at 0) rows ++ created_row (finished (insert_parts rows row word) words) k ∷ []) (sym is_row)
       ∙ ap (λ (x : ℕ). rows_from words (get_or words high_at 0) rows ++ record { key = key_of row; values = Int (integer_of x) ∷ [] } ∷ []) insert-value
 
-  insert-state : state_of (finished (insert_parts rows row word) words) (record { begun = begun; running = Some (record { number = number; rows = rows + 1 }) })
+  insert-state : state_of (finished (insert_parts rows row word) words) (record { begun = begun; running = Some (record { number = number; snapshot = snapshot; rows = rows + 1 }) })
       ≡ state_by (get_or words high_at 0 + (rows + 1)) (commits_in words (get_or words last_at 0)) begun
-      (Some (creating number (get_or words last_at 0) (rows_from words (get_or words high_at 0) rows ++ record { key = key_of row; values = Int (integer_of word) ∷ [] } ∷ [])))
-  insert-state = state_with (finished (insert_parts rows row word) words) begun number (rows + 1) (get_or words high_at 0) (get_or words last_at 0) (commits_in words (get_or words last_at 0))
+      (Some (creating number snapshot (rows_from words (get_or words high_at 0) rows ++ record { key = key_of row; values = Int (integer_of word) ∷ [] } ∷ [])))
+  insert-state = state_with (finished (insert_parts rows row word) words) begun number snapshot (rows + 1) (get_or words high_at 0) (get_or words last_at 0) (commits_in words (get_or words last_at 0))
       (rows_from words (get_or words high_at 0) rows ++ record { key = key_of row; values = Int (integer_of word) ∷ [] } ∷ [])
       (insert-beside high_at (λ e. omega (arith, e)) (λ e. omega (arith, e))) (insert-beside last_at (λ e. omega (arith, e)) (λ e. omega (arith, e)))
       (commits_in-same (get_or words last_at 0) words (finished (insert_parts rows row word) words) insert-same) insert-created
 
-  insert-stage : IsStage (finished (insert_parts rows row word) words) (Some (record { number = number; rows = rows + 1 }))
+  insert-stage : IsStage (finished (insert_parts rows row word) words) (Some (record { number = number; snapshot = snapshot; rows = rows + 1 }))
   insert-stage =
       let new = finished (insert_parts rows row word) words in
       let high = insert-beside high_at (λ e. omega (arith, e)) (λ e. omega (arith, e)) in
@@ -186,6 +187,7 @@ module _ (words : List ℕ) (begun number rows : ℕ) (stage : IsStage words (So
         size = let old = stage.size in let one = length-words_after (one_store (entry_at 0 rows) (entry_word (created_entry row))) words in
             let two = length-words_after (one_store (value_at row) word) (words_after (one_store (entry_at 0 rows) (entry_word (created_entry row))) words) in omega (arith, one, two, old);
         last = let old = stage.last in omega (arith, last, old);
+        reads = let old = stage.reads in omega (arith, last, old);
         few = omega arith;
         room = omega (arith, high, is_row, fewer);
         born = λ k lt. let same = insert-beside (born_at k) (λ e. omega (arith, e, few)) (λ e. omega (arith, e, lt)) in
@@ -204,8 +206,8 @@ module _ (words : List ℕ) (begun number rows : ℕ) (stage : IsStage words (So
       }
 
   pub insert-decided : (value : ℤ) (actions : List Action) → integer_of word ≡ value → word ≡ key_word_of value → actions ≡ plan_of (insert_parts rows row word) → length actions ≤ 400
-      → IsDecided words (record { begun = begun; running = Some (record { number = number; rows = rows }) }) (insert_of value) (reply.Row row) actions
-      (record { begun = begun; running = Some (record { number = number; rows = rows + 1 }) })
+      → IsDecided words (record { begun = begun; running = Some (record { number = number; snapshot = snapshot; rows = rows }) }) (insert_of value) (reply.Row row) actions
+      (record { begun = begun; running = Some (record { number = number; snapshot = snapshot; rows = rows + 1 }) })
   insert-decided value actions is_value is_word is_actions short =
       let after : words_after actions words ≡ finished (insert_parts rows row word) words = ap (λ (xs : List Action). words_after xs words) is_actions ∙ words_after-plan (insert_parts rows row word) words in
       let commits = commits_in words (get_or words last_at 0) in
@@ -215,7 +217,7 @@ module _ (words : List ℕ) (begun number rows : ℕ) (stage : IsStage words (So
       let next_one : given + 1 ≡ get_or words high_at 0 + (rows + 1) = omega arith in
       let one : CreatedRow = record { key = key_of row; values = Int value ∷ [] } in
       record {
-        allowed = sym (insert-answer given commits begun number (get_or words last_at 0) created value (omega (arith, count, few)) (omega (arith, is_row, fewer)) ∙ ap reply.Row (sym is_row));
+        allowed = sym (insert-answer given commits begun number snapshot created value (omega (arith, count, few)) (omega (arith, is_row, fewer)) ∙ ap reply.Row (sym is_row));
         parts = insert_parts rows row word;
         plan = (
           store_part (length words) (entry_at 0 rows) (entry_word (created_entry row)) (let s = stage.size in omega (arith, s, few)),
@@ -223,13 +225,13 @@ module _ (words : List ℕ) (begun number rows : ℕ) (stage : IsStage words (So
         );
         plan_is = is_actions;
         state =
-            insert-next given commits begun number (get_or words last_at 0) created value row
-            ∙ ap (λ (xs : List CreatedRow). state_by (given + 1) commits begun (Some (creating number (get_or words last_at 0) xs)))
+            insert-next given commits begun number snapshot created value row
+            ∙ ap (λ (xs : List CreatedRow). state_by (given + 1) commits begun (Some (creating number snapshot xs)))
             (put-rows_from words row one (get_or words high_at 0) rows refl (omega (arith, is_row)))
-            ∙ ap (λ (n : ℕ). state_by n commits begun (Some (creating number (get_or words last_at 0) (created ++ one ∷ [])))) next_one
-            ∙ ap (λ (v : ℤ). state_by (get_or words high_at 0 + (rows + 1)) commits begun (Some (creating number (get_or words last_at 0) (created ++ record { key = key_of row; values = Int v ∷ [] } ∷ [])))) (sym is_value)
+            ∙ ap (λ (n : ℕ). state_by n commits begun (Some (creating number snapshot (created ++ one ∷ [])))) next_one
+            ∙ ap (λ (v : ℤ). state_by (get_or words high_at 0 + (rows + 1)) commits begun (Some (creating number snapshot (created ++ record { key = key_of row; values = Int v ∷ [] } ∷ [])))) (sym is_value)
             ∙ sym insert-state
-            ∙ ap (λ (new : List ℕ). state_of new (record { begun = begun; running = Some (record { number = number; rows = rows + 1 }) })) (sym after);
+            ∙ ap (λ (new : List ℕ). state_of new (record { begun = begun; running = Some (record { number = number; snapshot = snapshot; rows = rows + 1 }) })) (sym after);
         stage = rw after insert-stage;
         full = (fewer, omega (arith, count, few));
         memory = tt;
@@ -239,33 +241,33 @@ module _ (words : List ℕ) (begun number rows : ℕ) (stage : IsStage words (So
       }
 
 -- an insert for which the table has no row, or the object no entry
-pub insert-full : (words : List ℕ) (begun number rows : ℕ) (value : ℤ) → IsStage words (Some (record { number = number; rows = rows }))
+pub insert-full : (words : List ℕ) (begun number snapshot rows : ℕ) (value : ℤ) → IsStage words (Some (record { number = number; snapshot = snapshot; rows = rows }))
     → (60 ≤ rows) ⊎ (4096 ≤ get_or words high_at 0 + rows)
-    → IsDecided words (record { begun = begun; running = Some (record { number = number; rows = rows }) }) (insert_of value) (reply.Full 1 0) []
-    (record { begun = begun; running = Some (record { number = number; rows = rows }) })
-insert-full words begun number rows value stage none =
+    → IsDecided words (record { begun = begun; running = Some (record { number = number; snapshot = snapshot; rows = rows }) }) (insert_of value) (reply.Full 1 0) []
+    (record { begun = begun; running = Some (record { number = number; snapshot = snapshot; rows = rows }) })
+insert-full words begun number snapshot rows value stage none =
     let few = stage.few in
     let room = stage.room in
     let high = get_or words high_at 0 in
     let last = get_or words last_at 0 in
     let created = rows_from words high rows in
     let count = length-rows_from words high rows in
-    let before : Transactions = record { begun = begun; running = Some (record { number = number; rows = rows }) } in
+    let before : Transactions = record { begun = begun; running = Some (record { number = number; snapshot = snapshot; rows = rows }) } in
     let due : answer (state_of words before) 1 (insert_of value) ≡ reply.Row (high + rows) =
-    insert-answer (high + rows) (commits_in words last) begun number last created value (omega (arith, count, few)) (omega (arith, room)) in
+    insert-answer (high + rows) (commits_in words last) begun number snapshot created value (omega (arith, count, few)) (omega (arith, room)) in
     refused words before (insert_of value) (reply.Full 1 0) stage (subst (λ (given : Reply). IsTrue (needs_room given)) (sym due) refl) refl
     (refl, refl, ⊎_elim (λ (many : 60 ≤ rows). inr (omega (arith, many, few, count))) (λ (many : 4096 ≤ high + rows). inl (omega (arith, many, room))) none) refl tt
 
 -- an insert takes memory where the table has a row, and the object an entry
-pub insert-takes : (words : List ℕ) (begun number rows : ℕ) (value : ℤ) → rows < 60 → get_or words high_at 0 + rows < 4096
-    → TakesMemory (state_of words (record { begun = begun; running = Some (record { number = number; rows = rows }) }))
-    (answer (state_of words (record { begun = begun; running = Some (record { number = number; rows = rows }) })) 1 (insert_of value))
-insert-takes words begun number rows value few fewer =
+pub insert-takes : (words : List ℕ) (begun number snapshot rows : ℕ) (value : ℤ) → rows < 60 → get_or words high_at 0 + rows < 4096
+    → TakesMemory (state_of words (record { begun = begun; running = Some (record { number = number; snapshot = snapshot; rows = rows }) }))
+    (answer (state_of words (record { begun = begun; running = Some (record { number = number; snapshot = snapshot; rows = rows }) })) 1 (insert_of value))
+insert-takes words begun number snapshot rows value few fewer =
     let high = get_or words high_at 0 in
     let last = get_or words last_at 0 in
     let created = rows_from words high rows in
     let count = length-rows_from words high rows in
-    let before : Transactions = record { begun = begun; running = Some (record { number = number; rows = rows }) } in
+    let before : Transactions = record { begun = begun; running = Some (record { number = number; snapshot = snapshot; rows = rows }) } in
     let due : answer (state_of words before) 1 (insert_of value) ≡ reply.Row (high + rows) =
-    insert-answer (high + rows) (commits_in words last) begun number last created value (omega (arith, count, few)) (omega (arith, fewer)) in
+    insert-answer (high + rows) (commits_in words last) begun number snapshot created value (omega (arith, count, few)) (omega (arith, fewer)) in
     subst (λ (given : Reply). TakesMemory (state_of words before) given) (sym due) (fewer, omega (arith, count, few))

@@ -42,6 +42,7 @@ stage-sound words size sound =
     record {
       size = size;
       last = whole.last;
+      reads = omega arith;
       few = omega arith;
       room = omega (arith, high);
       born = λ row lt. (stamped.born_is row lt).0;

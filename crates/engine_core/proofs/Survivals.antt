@@ -221,35 +221,35 @@ insert-survives base begun own row word value actions now stage is_row few below
 
 -- ── a commit ──
 
-module _ (words : List ℕ) (begun number rows high last : ℕ) (stage : IsStage words (Some (record { number = number; rows = rows })))
+module _ (words : List ℕ) (begun number snapshot rows high last : ℕ) (stage : IsStage words (Some (record { number = number; snapshot = snapshot; rows = rows })))
     (is_high : get_or words high_at 0 ≡ high) (is_last : get_or words last_at 0 ≡ last) (some : 0 < rows) (room : last < MAX_COMMITS) where
   pub commit-survives : (commit late : ℕ) (actions : List Action) → commit ≡ last + 1 → actions ≡ plan_of (commit_parts high rows commit) → late ≡ length (plan_of (commit_late rows commit))
-      → IsDecided words (record { begun = begun; running = Some (record { number = number; rows = rows }) }) call.Commit (reply.Committed commit) actions (record { begun = begun; running = None }) → Fits words
-      → SurvivesInHalves (state_of words (record { begun = begun; running = Some (record { number = number; rows = rows }) })) (state_of (words_after actions words) (record { begun = begun; running = None })) commit late words actions
+      → IsDecided words (record { begun = begun; running = Some (record { number = number; snapshot = snapshot; rows = rows }) }) call.Commit (reply.Committed commit) actions (record { begun = begun; running = None }) → Fits words
+      → SurvivesInHalves (state_of words (record { begun = begun; running = Some (record { number = number; snapshot = snapshot; rows = rows }) })) (state_of (words_after actions words) (record { begun = begun; running = None })) commit late words actions
   commit-survives commit late actions is_commit is_actions is_late decided fits =
-      let before = state_of words (record { begun = begun; running = Some (record { number = number; rows = rows }) }) in
+      let before = state_of words (record { begun = begun; running = Some (record { number = number; snapshot = snapshot; rows = rows }) }) in
       let after = state_of (words_after actions words) (record { begun = begun; running = None }) in
-      let cleared = commits.cleared words begun number rows high last stage is_high is_last some room in
-      let is_last_new = commits.new_last words begun number rows high last stage is_high is_last some room in
+      let cleared = commits.cleared words begun number snapshot rows high last stage is_high is_last some room in
+      let is_last_new = commits.new_last words begun number snapshot rows high last stage is_high is_last some room in
       let plan_is : actions ≡ plan_of (commit_parts high rows (last + 1)) = is_actions ∙ ap (λ (n : ℕ). plan_of (commit_parts high rows n)) is_commit in
-      let all_words : words_after actions words ≡ commits.cleared words begun number rows high last stage is_high is_last some room =
+      let all_words : words_after actions words ≡ commits.cleared words begun number snapshot rows high last stage is_high is_last some room =
       ap (λ (xs : List Action). words_after xs words) (plan_is ∙ ap plan_of (commit_parts-five high rows (last + 1))) ∙ words_after-plan (commits.five high rows (last + 1)) words in
       let kept : get_or words high_at 0 + rows ≡ next_row_of (state_of (words_after actions words) (record { begun = begun; running = None })) 0 = ap (λ (s : State). next_row_of s 0) decided.state in
       let old : before.commits ≡ commits_in words last = ap (commits_in words) is_last in
       let new : after.commits ≡ commits_in words last ++ record { created = rows_from words high rows; ended = [] } ∷ [] =
-      ap (λ (ws : List ℕ). commits_in ws (get_or ws last_at 0)) all_words ∙ ap (commits_in cleared) is_last_new ∙ commits.commit-commits words begun number rows high last stage is_high is_last some room in
+      ap (λ (ws : List ℕ). commits_in ws (get_or ws last_at 0)) all_words ∙ ap (commits_in cleared) is_last_new ∙ commits.commit-commits words begun number snapshot rows high last stage is_high is_last some room in
       let late_is = commit_late-is rows (last + 1) in
-      subst (λ (n : ℕ). SurvivesInHalves (state_of words (record { begun = begun; running = Some (record { number = number; rows = rows }) })) (state_of (words_after actions words) (record { begun = begun; running = None })) n late words actions) (sym is_commit)
+      subst (λ (n : ℕ). SurvivesInHalves (state_of words (record { begun = begun; running = Some (record { number = number; snapshot = snapshot; rows = rows }) })) (state_of (words_after actions words) (record { begun = begun; running = None })) n late words actions) (sym is_commit)
       (record {
         first = high;
         count = rows;
-        plan = subst (IsPlan (length words)) (sym (commit_parts-five high rows (last + 1))) (commits.commit-plan words begun number rows high last stage is_high is_last some room);
+        plan = subst (IsPlan (length words)) (sym (commit_parts-five high rows (last + 1))) (commits.commit-plan words begun number snapshot rows high last stage is_high is_last some room);
         plan_is = plan_is;
         late_is = is_late ∙ ap (λ (n : ℕ). length (plan_of (commit_late rows n))) is_commit;
         next = ap (λ (n : ℕ). n + 1) is_last;
         unset = stage.commit_word;
         rows = omega (arith, kept, is_high);
-        early = λ now like. early-cuts words begun number rows high last stage is_high is_last some room before after old new now like;
-        decided = λ now like. decided-shown words begun number rows high last stage is_high is_last some room before after old new now like;
-        later = λ now like. subst (λ (parts : List Part). EachCut (IsShown after.commits 0 now) parts now) (sym late_is) (late-cuts words begun number rows high last stage is_high is_last some room after now like);
+        early = λ now like. early-cuts words begun number snapshot rows high last stage is_high is_last some room before after old new now like;
+        decided = λ now like. decided-shown words begun number snapshot rows high last stage is_high is_last some room before after old new now like;
+        later = λ now like. subst (λ (parts : List Part). EachCut (IsShown after.commits 0 now) parts now) (sym late_is) (late-cuts words begun number snapshot rows high last stage is_high is_last some room after now like);
       })

@@ -77,13 +77,14 @@ one_empty_table = record { tables = table_of 0 ∷ []; commits = []; begun = 0; 
 abbrev pub within : ℕ → ℕ → ℕ → Bool
 within first count number = nat_le first number && nat_lt number (first + count)
 
--- The open transaction sees the row: no commit ended it, and a commit or the transaction itself created it.
-abbrev pub is_seen : List ℕ → ℕ → ℕ → Bool
+-- The open transaction sees the row: no commit that it reads ended it, and one of these or the transaction itself
+-- created it.
+abbrev pub is_seen : List ℕ → Running → ℕ → Bool
 is_seen words own row =
-    let last = slice_index words last_at in
     let is_row = within 0 4096 row in
-    not (within 1 last (slice_index words (ended_at row)) && is_row)
-    && (within 1 last (slice_index words (born_at row)) && is_row || within (slice_index words high_at) own row)
+    not (within 1 own.snapshot (slice_index words (ended_at row)) && is_row)
+    && (within 1 own.snapshot (slice_index words (born_at row)) && is_row
+    || within (slice_index words high_at) own.rows row)
 
 -- so many rows from this one on
 abbrev pub rows_from : List ℕ → ℕ → ℕ → List CreatedRow
@@ -102,11 +103,15 @@ state_by next commits begun own = record {
 abbrev pub rows_of : Option Running → ℕ
 rows_of running = option_map_or (λ own. own.rows) running 0
 
--- the open transaction: it reads all commits, and its rows stand behind those of the commits
+-- how many commits the open transaction reads
+abbrev pub snapshot_of : Option Running → ℕ
+snapshot_of running = option_map_or (λ own. own.snapshot) running 0
+
+-- the open transaction: it reads the commits up to its snapshot, and its rows stand behind those of all commits
 abbrev pub transaction_in : List ℕ → Running → Transaction
 transaction_in words own = record {
   number = own.number;
-  snapshot = slice_index words last_at;
+  snapshot = own.snapshot;
   writes = record { created = rows_from words (slice_index words high_at) own.rows; ended = [] };
 }
 

@@ -5,7 +5,7 @@ use Rattle.image_layout.specs.Fixed.{last_at, state_at, commit_word_at, entry_at
 use Rattle.txn_object.specs.Entries.{entry_word}
 use Rattle.engine_core.specs.Stage.{high_at, born_at, ended_at}
 use Rattle.engine_core.specs.StagePlans.{created_entry}
-use Rattle.engine_core.specs.LogicalState.{rows_of}
+use Rattle.engine_core.specs.LogicalState.{rows_of, snapshot_of}
 use Rattle.engine_core.specs.declared.transactions.Running.{Running}
 
 -- the word of an object that says whether it is open
@@ -19,6 +19,8 @@ pub record IsStage (words : List ℕ) (running : Option Running) : Type 0 where
   -- there is a whole segment, and the last commit number isn't above the greatest
   pub size : 32768 ≤ length words
   pub last : slice_index words last_at ≤ MAX_COMMITS
+  -- the transaction reads no more commits than there are
+  pub reads : snapshot_of running ≤ slice_index words last_at
   -- the transaction's rows have room in its object, and in the table behind the rows that are used up
   pub few : rows_of running ≤ 60
   pub room : slice_index words high_at + rows_of running ≤ 4096

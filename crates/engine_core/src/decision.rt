@@ -175,7 +175,11 @@ fn begin<M: Memory>(alloc: Global, memory: &M, begun: u64) -> Result<Decision, N
         plan: Some(plan),
         after: Transactions {
             begun: number,
-            running: Some(Running { number, rows: 0 }),
+            running: Some(Running {
+                number,
+                snapshot,
+                rows: 0,
+            }),
         },
         late: None,
     })
@@ -222,6 +226,7 @@ fn insert<M: Memory>(
             begun,
             running: Some(Running {
                 number: own.number,
+                snapshot: own.snapshot,
                 rows: own.rows + 1,
             }),
         },
@@ -246,7 +251,7 @@ fn get<M: Memory>(
         begun,
         running: Some(own),
     };
-    if row >= STAGE_ROWS || !is_seen(memory, own.rows, row) {
+    if row >= STAGE_ROWS || !is_seen(memory, own, row) {
         return Ok(stand(Reply::NoRow, Reply::NoRow, now));
     }
     let values = one_value(alloc, integer(memory.load(value(row))))?;
@@ -262,25 +267,24 @@ fn one_value(alloc: Global, number: i64) -> Result<Values, NoMemory>
     Ok(Values::from(values))
 }
 
-// Whether the open transaction, which created so many rows, sees a row.
-fn is_seen<M: Memory>(memory: &M, own: u32, row: u32) -> bool
+// Whether the open transaction sees a row.
+fn is_seen<M: Memory>(memory: &M, own: Running, row: u32) -> bool
     requires size { 32768 ≤ length (M.device memory.now).cached }
     requires row { row < 4096 }
     ensures { result ≡ sees (M.device memory.now).cached own row }
 {
-    let last = memory.load(last_commit());
     let first = memory.load(high());
-    let is_ended = is_commit(memory.load(ended(row)), last);
-    let is_committed = is_commit(memory.load(born(row)), last);
+    let is_ended = is_read(memory.load(ended(row)), own.snapshot);
+    let is_committed = is_read(memory.load(born(row)), own.snapshot);
     let row = u64::from(row);
-    !is_ended && (is_committed || first <= row && row - first < u64::from(own))
+    !is_ended && (is_committed || first <= row && row - first < u64::from(own.rows))
 }
 
-// Whether a stamp is the number of a commit.
-fn is_commit(stamp: u64, last: u64) -> bool
-    ensures { result ≡ within 1 last stamp }
+// Whether a stamp is the number of a commit that a transaction with this snapshot reads.
+fn is_read(stamp: u64, snapshot: u64) -> bool
+    ensures { result ≡ within 1 snapshot stamp }
 {
-    1 <= stamp && stamp <= last
+    1 <= stamp && stamp <= snapshot
 }
 
 fn commit<M: Memory>(

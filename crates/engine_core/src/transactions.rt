@@ -1,10 +1,11 @@
 // What the core keeps of transactions outside the device.
 ghost use Rattle.std.specs.Prelude.{◌≡◌, None};
 
-/// A transaction that is open: its number, and how many rows it has created.
+/// A transaction that is open: its number, how many commits it reads, and how many rows it has created.
 #[derive(Clone, Copy, Debug)]
 pub(crate) struct Running {
     pub number: u64,
+    pub snapshot: u64,
     pub rows: u32,
 }
 

@@ -27,15 +27,15 @@ returns-clause-decided g c =
     let is_high : c.load-first.result ≡ get_or words high_at 0 = c.load-first.ensures ∙ ap (λ (k : ℕ). get_or words k 0) c.high.ensures in
     let some : 0 < c.args.own.rows = omega (arith, c.if-own-eq0.false) in
     let room : c.load-last.result < MAX_COMMITS = omega (arith, c.if-last-ge-MAX_COMMITS.false) in
-    let decided = commit-decided words c.args.begun c.args.own.number c.args.own.rows c.load-first.result c.load-last.result c.requires (sym is_high) (sym is_last) some room (c.load-last.result + 1) c.in_ok-made.made.plan.left refl c.in_ok-made.ensures.left
+    let decided = commit-decided words c.args.begun c.args.own.number c.args.own.snapshot c.args.own.rows c.load-first.result c.load-last.result c.requires (sym is_high) (sym is_last) some room (c.load-last.result + 1) c.in_ok-made.made.plan.left refl c.in_ok-made.ensures.left
     (omega (arith, c.in_ok-made.ensures.actions)) in
     record {
       copied = refl;
       decided = decided;
       late = (refl, refl, c.in_ok-made.ensures.later);
       open_still = refl;
-      timed = commit-timed words c.args.begun c.args.own.number c.args.own.rows c.load-first.result c.load-last.result c.requires (sym is_high) (sym is_last) some room (c.load-last.result + 1) c.in_ok-made.made.late c.in_ok-made.ensures.late;
-      survives = commit-survives words c.args.begun c.args.own.number c.args.own.rows c.load-first.result c.load-last.result c.requires (sym is_high) (sym is_last) some room (c.load-last.result + 1)
+      timed = commit-timed words c.args.begun c.args.own.number c.args.own.snapshot c.args.own.rows c.load-first.result c.load-last.result c.requires (sym is_high) (sym is_last) some room (c.load-last.result + 1) c.in_ok-made.made.late c.in_ok-made.ensures.late;
+      survives = commit-survives words c.args.begun c.args.own.number c.args.own.snapshot c.args.own.rows c.load-first.result c.load-last.result c.requires (sym is_high) (sym is_last) some room (c.load-last.result + 1)
           c.in_ok-made.made.late c.in_ok-made.made.plan.left refl c.in_ok-made.ensures.left c.in_ok-made.ensures.late decided;
     }
 
