@@ -18,7 +18,7 @@ use Rattle.shown_state.specs.StepLaws.{HaveNoNew}
 use Rattle.shown_state.proofs.SameValueRules.{column_among}
 use Rattle.opening_steps.proofs.Idle.{ChangesOnly, heap_rules, held, given_kept, lanes_kept, later_kept, logs, MayChange, owners_apart, owners_kept, places, slots_null}
 use Rattle.opening_steps.proofs.ReadRules.{arrays_rule_same}
-use Rattle.opening_steps.proofs.Slots.{slots_kept}
+use Rattle.opening_steps.proofs.Slots.{null_slot, slots_kept}
 use Rattle.opening_steps.proofs.Structure.{of_table, same_prints, SamePlaces, same_tree}
 use Rattle.opening_steps.proofs.Tables.{block_same, columns_same, count_same, since_same}
 use Rattle.opening_steps.proofs.TreeRules.{code_rule_same, fingerprint_rule_same, order_rule_same, text_key_rule_same, text_rule_same, tree_rule_same}
@@ -72,7 +72,7 @@ still_fits old new changed image fits clear may only said =
         descriptors = heap.descriptors;
         bitmaps = heap.bitmaps;
         lanes = lanes_kept old new changed image fits clear may only;
-        table_slots = slots_kept old new same only.version fits.first (few_tables old fits.entry.table_count) fits.entry.table_slots (slots_null old new changed image fits clear may only);
+        table_slots = slots_kept old new same only.version fits.first (few_tables old fits.entry.table_count) fits.entry.table_slots (λ table le lt. null_slot old new same table le (slots_null old new changed image fits clear may only table le lt));
         arrays = kept_by old new _ (arrays_rule_same old new same) arrays;
         trees = kept_by old new _ (tree_rule_same old new same tree trees) trees;
         names = names_kept old new same only.version fits.first fits.entry.names;

@@ -88,7 +88,7 @@ module _ (old : List ℕ) (fits : Fits old) (clear : HaveNoNew 512 old) where
       (Contains-append_cases (next_table_slots old) (flat_map (next_text_slots old) (all_columns old)) at is)
 
 -- the slots behind the one at the count are null
-null_behind : (old : List ℕ) → Keeps old table_slot_rule → (table : ℕ) → table_count old < table → table < 32 → get_or old (table_slot_at table) 0 ≡ 0
+pub null_behind : (old : List ℕ) → Keeps old table_slot_rule → (table : ℕ) → table_count old < table → table < 32 → get_or old (table_slot_at table) 0 ≡ 0
 unfolding table_slot_rule
 null_behind old keeps table above lt =
     let at = table_slot_at table in

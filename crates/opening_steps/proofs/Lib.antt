@@ -5,6 +5,9 @@ pub mod Fitting
 pub mod Idle
 pub mod Intact
 pub mod Keys
+pub mod LaneSpots
+pub mod LaneStep
+pub mod LanesFit
 pub mod LastNumber
 pub mod LeafHomes
 pub mod NoneNew
@@ -14,6 +17,7 @@ pub mod OwnerPlaces
 pub mod Owners
 pub mod QuietOpening
 pub mod ReadRules
+pub mod Released
 pub mod Rows
 pub mod Showing
 pub mod Slots

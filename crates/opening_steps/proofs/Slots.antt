@@ -102,8 +102,17 @@ module _ (old new : List ℕ) (same : SamePlaces old new) where
         none_first first (plain first table published) c
         (subst (λ (cs : List Check). Contains cs c) (cond-false (is_first_version new) [] (pointer_checks new) (second_is new two) ∙ pointers_same) is)
 
-  -- The slot at the count is null, and those behind it are.
-  module _ (version : VersionGoesOn old new) (plain : BeginFirst old) (counted : table_count old ≤ 32) (keeps : Keeps old table_slot_rule) (null : (table : ℕ) → table_count old ≤ table → table < 32 → get_or new (table_slot_at table) 0 ≡ 0) where
+  -- behind the published tables a null slot is one
+  pub null_slot : (table : ℕ) → table_count old ≤ table → get_or new (table_slot_at table) 0 ≡ 0 → is_table_slot new table ≡ true
+  null_slot table le null =
+      let word = get_or new (table_slot_at table) 0 in
+      let count = count_same old new same in
+      let zero_word : eqb word 0 ≡ true = eq-eqb word 0 null in
+      cond-false (ltb table (table_count new)) (is_table_pointer new word) _ (le-ltb table (table_count new) (omega (arith, le, count)))
+      ∙ cond_both (eqb table (table_count new)) ((eqb word 0) || is_block_pointer new word) (eqb word 0) (λ (b : Bool). b ≡ true) (λ one. or_left (eqb word 0) _ zero_word) (λ other. zero_word)
+
+  -- The slots from the count on are what they are to be.
+  module _ (version : VersionGoesOn old new) (plain : BeginFirst old) (counted : table_count old ≤ 32) (keeps : Keeps old table_slot_rule) (later : (table : ℕ) → table_count old ≤ table → table < 32 → is_table_slot new table ≡ true) where
     published_holds : (table : ℕ) → table < table_count old → (c : Check) → Contains (table_slot_checks new table) c → Holds c
     unfolding table_slot_rule
     published_holds table lt c is =
@@ -129,20 +138,14 @@ module _ (old new : List ℕ) (same : SamePlaces old new) where
         c (subst (λ (cs : List Check). Contains cs c) behind later))
         (Contains-cons (check at (is_table_slot new table)) c (cond (ltb table (table_count new)) (extension_checks new (table_block new table)) []) is)
 
-    null_holds : (table : ℕ) → table < 32 → table_count old ≤ table → (c : Check) → Contains (table_slot_checks new table) c → Holds c
-    null_holds table lt le c is =
-        let at = table_slot_at table in
-        let word = get_or new at 0 in
+    later_holds : (table : ℕ) → table < 32 → table_count old ≤ table → (c : Check) → Contains (table_slot_checks new table) c → Holds c
+    later_holds table lt le c is =
         let count = count_same old new same in
         let miss : ltb table (table_count new) ≡ false = le-ltb table (table_count new) (omega (arith, le, count)) in
-        let zero_word : eqb word 0 ≡ true = eq-eqb word 0 (null table le lt) in
-        let slot : is_table_slot new table ≡ true =
-        cond-false (ltb table (table_count new)) (is_table_pointer new word) _ miss
-        ∙ cond_both (eqb table (table_count new)) ((eqb word 0) || is_block_pointer new word) (eqb word 0) (λ (b : Bool). b ≡ true) (λ one. or_left (eqb word 0) _ zero_word) (λ other. zero_word) in
         let no_more : cond (ltb table (table_count new)) (extension_checks new (table_block new table)) [] ≡ [] = cond-false (ltb table (table_count new)) (extension_checks new (table_block new table)) [] miss in
-        ⊎_elim (λ (here : check at (is_table_slot new table) ≡ c). subst Holds here slot)
+        ⊎_elim (λ (here : check (table_slot_at table) (is_table_slot new table) ≡ c). subst Holds here (later table le lt))
         (λ there. absurd (Contains-nil c (subst (λ (cs : List Check). Contains cs c) no_more there)))
-        (Contains-cons (check at (is_table_slot new table)) c (cond (ltb table (table_count new)) (extension_checks new (table_block new table)) []) is)
+        (Contains-cons (check (table_slot_at table) (is_table_slot new table)) c (cond (ltb table (table_count new)) (extension_checks new (table_block new table)) []) is)
 
     pub slots_kept : Keeps new table_slot_rule
     unfolding table_slot_rule
@@ -152,6 +155,6 @@ module _ (old new : List ℕ) (same : SamePlaces old new) where
           let lt = Contains-below 32 table among in
           ⊎_elim
           (λ (published : table < table_count old). published_holds table published c here)
-          (λ behind. null_holds table lt behind c here)
+          (λ behind. later_holds table lt behind c here)
           (cases_lt table (table_count old)));
     }

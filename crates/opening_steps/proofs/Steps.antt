@@ -28,6 +28,17 @@ step_by After mending words parts are stores cuts after = record {
       (subst After (sym (needed-finished (λ place value. place < length words) parts words stores)) after);
 }
 
+-- the same where other things may be under way
+pub keeps_by : (After : List ℕ → Type 0) (mending : Mending) (words : List ℕ) (parts : List Part) → mending words ≡ parts → AllStores (length words) parts → EachCut (FitsStill words) parts words → After (finished parts words)
+    → StepKeeps After mending words
+keeps_by After mending words parts are stores cuts after = record {
+  plan = subst (λ (ps : List Part). IsPlan (length words) (needed_parts words ps)) (sym are) (needed-plan (length words) parts words stores);
+  cuts = subst (λ (ps : List Part). EachCut (FitsStill words) (needed_parts words ps) words) (sym are)
+      (needed-cuts (FitsStill words) (λ place value. place < length words) parts words stores cuts);
+  goes_on = subst (λ (ps : List Part). After (finished (needed_parts words ps) words)) (sym are)
+      (subst After (sym (needed-finished (λ place value. place < length words) parts words stores)) after);
+}
+
 pub step_keeps : (After : List ℕ → Type 0) (mending : Mending) (words : List ℕ) → StepStays After mending words → StepKeeps After mending words
 step_keeps After mending words stays = record {
   plan = stays.plan;

@@ -12,6 +12,7 @@ ghost use Rattle.shown_state.specs.StepLaws.{
   AreMended,
   ClearsKeep,
   ClosesKeep,
+  LanesKeep,
   LastKeeps,
   OpensStill,
   UndosKeep,
@@ -19,8 +20,15 @@ ghost use Rattle.shown_state.specs.StepLaws.{
 };
 ghost use Rattle.opening_steps.specs.QuietImages.{IsQuiet};
 
-/// A law for proofs: each cut of the storing of the last commit's number keeps what fits together, and shows the same;
-/// behind it the last number is that of the last commit.
+/// A law for proofs: each cut of the mending of a lane at work keeps what fits together, and shows the same; behind it
+/// the lane is idle. An allocation whose owner's word names the block is ended, another is taken back, and a freeing is
+/// ended.
+pub fn lanes_law()
+    ensures { LanesKeep }
+{}
+
+/// A law for proofs: so does each cut of the storing of the last commit's number; behind it the last number is that of
+/// the last commit.
 pub fn last_number_law()
     ensures { LastKeeps }
 {}
