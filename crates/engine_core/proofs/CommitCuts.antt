@@ -30,7 +30,7 @@ use Rattle.engine_core.specs.LogicalState.{commit_count, commit_of, commits_in, 
 use Rattle.engine_core.specs.Survival.{IsLike, IsShown, IsShownUntil, commit_reads, is_own}
 use Rattle.engine_core.proofs.Commits.{born_is, entry_is, commit_of-interval, clear_run}
 use Rattle.engine_core.proofs.Entries.{HasEntries, past-created, ending-created}
-use Rattle.engine_core.proofs.Ruled.{IsRuled, ruled-cleared, ruled-last, ruled-self, ruled-stamps, ruled-state, ruled-word}
+use Rattle.engine_core.proofs.Ruled.{IsBesideObject, IsRuled, ruled-cleared, ruled-last, ruled-self, ruled-stamps, ruled-state, ruled-word}
 use Rattle.engine_core.proofs.Rows.{length-commits_in}
 use Rattle.engine_core.proofs.Shown.{fits-together, next-shown, quiet-shown}
 use Rattle.engine_core.proofs.Stores.{get-run, get-run_beside, get-run_last, run-misses}
@@ -190,8 +190,8 @@ module _ (base : List ℕ) (begun number snapshot rows high last : ℕ) (stage :
     within_table : high + rows ≤ 4096
     within_table = entries.room
 
-    cut-ruled : (image : List ℕ) → IsBetween words stamped image → IsRuled words image
-    cut-ruled image between = ruled-stamps words image like.fits between.size
+    cut-ruled : (image : List ℕ) → IsBetween words stamped image → IsRuled 0 words image
+    cut-ruled image between = ruled-stamps 0 words image (omega arith) like.fits between.size
         (λ w out apart. between-kept (stamp_part high rows (last + 1)) words image w between
         (misses w (⊎_elim (λ (low : w < 2048). inl (omega (arith, low))) (λ (above : 10240 ≤ w). let r = within_table in inr (omega (arith, above, r))) out) apart))
         (let r = within_table in let before_high = like.fits.high in ⊎_elim
@@ -202,12 +202,12 @@ module _ (base : List ℕ) (begun number snapshot rows high last : ℕ) (stage :
     size_stamped : length stamped ≡ length words
     size_stamped = length-words_after (stamp_part high rows (last + 1)) words
 
-    decided-ruled : IsRuled words decided
+    decided-ruled : IsRuled 0 words decided
     decided-ruled =
         let all = cut-ruled stamped (between-end (stamp_part high rows (last + 1)) words) in
         let is = between-kept (stamp_part high rows (last + 1)) words stamped last_at (between-end (stamp_part high rows (last + 1)) words) (misses last_at (inl (omega arith)) (λ e. omega (arith, e))) in
         let at = same_last in
-        ruled-word words stamped all (last + 1) (let s = size in let l = size_stamped in omega (arith, s, l)) (omega (arith, is, at)) (omega (arith, room))
+        ruled-word 0 words stamped (omega arith) all (last + 1) (let s = size in let l = size_stamped in omega (arith, s, l)) (omega (arith, is, at)) (omega (arith, room))
 
     -- the commit's own rows
     own-commit : commit_of decided (last + 1) ≡ record { created = rows_from base high rows; ended = [] }
@@ -228,13 +228,13 @@ module _ (base : List ℕ) (begun number snapshot rows high last : ℕ) (stage :
         kept-row w low out = other w (λ e. omega (arith, e, low)) ∙ get-run_beside (last + 1) born_at 2048 born_is high_at (high + rows) high rows words w out (λ e. omega (arith, e, low))
 
     pub decided-shown : IsShown after.commits 0 words decided
-    decided-shown = next-shown words decided like.fits decided-ruled (last + 1) (commits_in base last) after.commits (let is = count in omega (arith, is)) (like.shows ∙ old)
+    decided-shown = next-shown 0 words decided like.fits decided-ruled (last + 1) (commits_in base last) after.commits (let is = count in omega (arith, is)) (like.shows ∙ old)
         (ap (λ (own : WriteSet). commits_in base last ++ own ∷ []) own-commit ∙ sym new)
         (decided-shows words 0 (last + 1) (range_with_len high rows) [] (high + rows) here size (fits-together words like.fits) below)
 
     pub early-cuts : EachCut (IsShownUntil before after (last + 1) words) (commit_early high rows (last + 1)) words
     early-cuts =
-        let cut = λ (image : List ℕ) (between : IsBetween words stamped image). quiet-shown words image like.fits (cut-ruled image between) 0 before.commits like.shows
+        let cut = λ (image : List ℕ) (between : IsBetween words stamped image). quiet-shown 0 words image like.fits (cut-ruled image between) 0 before.commits like.shows
         (stamps-quiet words 0 (last + 1) (range_with_len high rows) [] (high + rows) here size (fits-together words like.fits) below image between) in
         let all = cut stamped (between-end (stamp_part high rows (last + 1)) words) in
         let word = get_or-set_same stamped (commit_word_at 0) (last + 1) 0 (let s = size in let l = size_stamped in omega (arith, s, l)) in (
@@ -268,22 +268,22 @@ module _ (base : List ℕ) (begun number snapshot rows high last : ℕ) (stage :
     abbrev closed : List ℕ
     closed = set lasted (state_at 0) 0
 
-    start : IsRuled words words
-    start = ruled-self words like.fits
+    start : IsRuled 0 words words
+    start = ruled-self 0 words (omega arith) like.fits
 
-    lasted-ruled : IsRuled words lasted
-    lasted-ruled = ruled-last words words start (last + 1) (let s = size_late in omega (arith, s)) here_late.least (omega (arith, room))
+    lasted-ruled : IsRuled 0 words lasted
+    lasted-ruled = ruled-last 0 words words (omega arith) start (last + 1) (let s = size_late in omega (arith, s)) here_late.least (omega (arith, room))
 
-    closed-ruled : IsRuled words closed
-    closed-ruled = ruled-state words lasted lasted-ruled 0 (let s = size_late in let l = length-set words last_at (last + 1) in omega (arith, s, l)) (omega arith) (λ e. absurd (omega (arith, e)))
+    closed-ruled : IsRuled 0 words closed
+    closed-ruled = ruled-state 0 words lasted (omega arith) lasted-ruled 0 (let s = size_late in let l = length-set words last_at (last + 1) in omega (arith, s, l)) (omega arith) (λ e. absurd (omega (arith, e)))
 
     closed_idle : get_or closed (state_at 0) 0 ≡ 0
     closed_idle = get_or-set_same lasted (state_at 0) 0 0 (let s = size_late in let l = length-set words last_at (last + 1) in omega (arith, s, l))
 
-    clear-ruled : (image : List ℕ) → IsBetween closed (words_after (stores 0 (cleared_places rows)) closed) image → IsRuled words image
+    clear-ruled : (image : List ℕ) → IsBetween closed (words_after (stores 0 (cleared_places rows)) closed) image → IsRuled 0 words image
     clear-ruled image between =
         let part = clear_part-is rows in
-        ruled-cleared words closed image closed-ruled closed_idle between.size
+        ruled-cleared 0 words closed image (omega arith) closed-ruled closed_idle between.size
         (λ w out. kept w (far w out) (beside w out))
         (⊎_elim (λ same. inl same)
         (λ (now : get_or image (commit_word_at 0) 0 ≡ get_or (words_after (stores 0 (cleared_places rows)) closed) (commit_word_at 0) 0).
@@ -292,12 +292,12 @@ module _ (base : List ℕ) (begun number snapshot rows high last : ℕ) (stage :
         (let s = size_late in let l = length-set words last_at (last + 1) in let m = length-set lasted (state_at 0) 0 in omega (arith, s, l, m))))
         (between.each (commit_word_at 0)))
       where
-        far : (w : ℕ) → (w < 1025) ⊎ (((1026 ≤ w) × (w < 1028)) ⊎ (1088 ≤ w)) → (w < 1028) ⊎ (1028 + rows ≤ w)
+        far : (w : ℕ) → IsBesideObject 0 w → (w < 1028) ⊎ (1028 + rows ≤ w)
         far w (inl low) = inl (omega (arith, low))
         far w (inr (inl middle)) = inl middle.1
         far w (inr (inr above)) = let f = entries.few in inr (omega (arith, above, f))
 
-        beside : (w : ℕ) → (w < 1025) ⊎ (((1026 ≤ w) × (w < 1028)) ⊎ (1088 ≤ w)) → w ≢ 1025
+        beside : (w : ℕ) → IsBesideObject 0 w → w ≢ 1025
         beside w (inl low) e = omega (arith, e, low)
         beside w (inr (inl middle)) e = let low = middle.0 in omega (arith, e, low)
         beside w (inr (inr above)) e = omega (arith, e, above)
@@ -311,7 +311,7 @@ module _ (base : List ℕ) (begun number snapshot rows high last : ℕ) (stage :
     pub late-cuts : EachCut (IsShown after.commits 0 words) (ending.commit_late 0 (last + 1) (cleared_places rows)) words
     late-cuts =
         let quiet = endings.late-cuts words 0 (last + 1) (cleared_places rows) here_late size_late (fits-together words like.fits) in
-        let shown = λ (image : List ℕ) (q : IsQuiet 0 words image) (r : IsRuled words image). quiet-shown words image like.fits r 0 after.commits like.shows q in (
+        let shown = λ (image : List ℕ) (q : IsQuiet 0 words image) (r : IsRuled 0 words image). quiet-shown 0 words image like.fits r 0 after.commits like.shows q in (
           cut-one_store (IsShown after.commits 0 words) last_at (last + 1) words (shown words (quiet.0 words (between-self words lasted)) start) (shown lasted (quiet.1.0 lasted (between-self lasted closed)) lasted-ruled),
           (
             cut-one_store (IsShown after.commits 0 words) (state_at 0) 0 lasted (shown lasted (quiet.1.0 lasted (between-self lasted closed)) lasted-ruled)

@@ -37,11 +37,11 @@ eqb-same a b n forth back = ⊎_elim
     (λ apart. ne_eqb a n apart ∙ sym (ne_eqb b n (λ is. apart (back is))))
     (cases_eq a n)
 
-module _ (words image : List ℕ) (fits : Fits words) (ruled : IsRuled words image) where
+module _ (object : ℕ) (words image : List ℕ) (fits : Fits words) (ruled : IsRuled object words image) where
   fits_now : FitsTogether (view_of image) → Fits image
   fits_now together =
       let rows = view-fits image together in
-      record { entry = ruled-rules words image fits.entry ruled; high = ruled.high; rows = rows.rows; born = rows.born; ended = rows.ended }
+      record { entry = ruled-rules object words image fits.entry ruled; high = ruled.high; rows = rows.rows; born = rows.born; ended = rows.ended }
 
   -- the commits that were shown are shown as they were
   commits_same : GoesOn (view_of words) (view_of image) → commits_in image (commit_count words) ≡ commits_in words (commit_count words)

@@ -46,7 +46,7 @@ stands-survives base now given below fits = record {
   plan_is = refl;
   reads = λ w. false;
   bound = 0;
-  each = λ words like. quiet-shown words words like.fits (ruled-self words like.fits) 0 (state_of base now).commits like.shows (quiet-self 0 words (fits-together words like.fits));
+  each = λ words like. quiet-shown 0 words words like.fits (ruled-self 0 words (omega arith) like.fits) 0 (state_of base now).commits like.shows (quiet-self 0 words (fits-together words like.fits));
   end = λ words like. omega arith;
   below = below;
   commits = refl;
@@ -79,11 +79,11 @@ module _ (base words : List ℕ) (state : State) (like : IsLike is_own state bas
     entries : HasEntries words 0 0
     entries = record { few = omega arith; room = omega arith; entries = λ nth lt. absurd (omega (arith, lt)); free = λ nth low lt. none.entries nth lt }
 
-    state-ruled : (y : ℕ) → y ≤ 1 → EachCut (IsRuled words) (one_store (state_at 0) y ∷ []) words
+    state-ruled : (y : ℕ) → y ≤ 1 → EachCut (IsRuled 0 words) (one_store (state_at 0) y ∷ []) words
     state-ruled y small =
-        let start = ruled-self words like.fits in
-        let then = ruled-state words words start y (let s = size_now in omega (arith, s)) small (λ open_now. entries-kept words 0 0 entries) in
-        (cut-one_store (IsRuled words) (state_at 0) y words start then, then)
+        let start = ruled-self 0 words (omega arith) like.fits in
+        let then = ruled-state 0 words words (omega arith) start y (let s = size_now in omega (arith, s)) small (λ open_now. entries-kept words 0 0 entries) in
+        (cut-one_store (IsRuled 0 words) (state_at 0) y words start then, then)
 
 no-entries : (words : List ℕ) (own : Running) → IsStage words (Some own) → own.rows ≡ 0 → HasNoEntry words 0 1
 no-entries words own stage none = record {
@@ -108,7 +108,7 @@ begin-survives base begun number snapshot actions now stage is_actions decided f
       plan_is = is_actions;
       reads = is_own;
       bound = 0;
-      each = λ words like. each_cut-both (IsQuiet 0 words) (IsRuled words) (IsShown before.commits 0 words) (λ image quiet ruled. quiet-shown words image like.fits ruled 0 before.commits like.shows quiet) (begin_parts 0) words
+      each = λ words like. each_cut-both (IsQuiet 0 words) (IsRuled 0 words) (IsShown before.commits 0 words) (λ image quiet ruled. quiet-shown 0 words image like.fits ruled 0 before.commits like.shows quiet) (begin_parts 0) words
           (quiets.begin-cuts words 0 (none base words before like stage.size 0 has) (size_now base words before like stage.size) (fits-together words like.fits))
           (state-ruled base words before like stage.size 0 has 1 (omega arith));
       end = λ words like. omega arith;
@@ -131,7 +131,7 @@ close-survives base begun own actions now stage empty is_actions decided fits =
       plan_is = is_actions ∙ ap plan_of close_parts-one;
       reads = is_own;
       bound = 0;
-      each = λ words like. each_cut-both (IsQuiet 0 words) (IsRuled words) (IsShown before.commits 0 words) (λ image quiet ruled. quiet-shown words image like.fits ruled 0 before.commits like.shows quiet) (one_store (state_at 0) 0 ∷ []) words
+      each = λ words like. each_cut-both (IsQuiet 0 words) (IsRuled 0 words) (IsShown before.commits 0 words) (λ image quiet ruled. quiet-shown 0 words image like.fits ruled 0 before.commits like.shows quiet) (one_store (state_at 0) 0 ∷ []) words
           (quiets.close-cuts words 0 (none base words before like stage.size 1 has) (size_now base words before like stage.size) (fits-together words like.fits))
           (state-ruled base words before like stage.size 1 has 0 (omega arith));
       end = λ words like. omega arith;
@@ -178,17 +178,17 @@ module _ (base : List ℕ) (own : Running) (row word : ℕ) (stage : IsStage bas
       (get_or-set_same words (entry_at 0 own.rows) (entry_word (created_entry row)) 0 (let s = insert-size in omega (arith, s, few)) ∙ ap (λ (r : ℕ). entry_word (created_entry r)) is_row)
       (λ w apart. get_or-set_other words (entry_at 0 own.rows) w (entry_word (created_entry row)) 0 apart)
 
-  insert-ruled : EachCut (IsRuled words) (insert_parts own.rows row word) words
+  insert-ruled : EachCut (IsRuled 0 words) (insert_parts own.rows row word) words
   insert-ruled =
-      let start = ruled-self words like.fits in
-      let one = ruled-entry words words start own.rows (entry_word (created_entry row)) few (entries-kept entered (get_or base high_at 0) (own.rows + 1) has-entered) in
-      let two = ruled-value words entered one row word below unstamped in (
-        cut-one_store (IsRuled words) (entry_at 0 own.rows) (entry_word (created_entry row)) words start one,
-        (cut-one_store (IsRuled words) (value_at row) word entered one two, two),
+      let start = ruled-self 0 words (omega arith) like.fits in
+      let one = ruled-entry 0 words words (omega arith) start own.rows (entry_word (created_entry row)) few (entries-kept entered (get_or base high_at 0) (own.rows + 1) has-entered) in
+      let two = ruled-value 0 words entered (omega arith) one row word below unstamped in (
+        cut-one_store (IsRuled 0 words) (entry_at 0 own.rows) (entry_word (created_entry row)) words start one,
+        (cut-one_store (IsRuled 0 words) (value_at row) word entered one two, two),
       )
 
   insert-each : EachCut (IsShown state.commits (row + 1) words) (insert_parts own.rows row word) words
-  insert-each = each_cut-both (IsQuiet (row + 1) words) (IsRuled words) (IsShown state.commits (row + 1) words) (λ image quiet ruled. quiet-shown words image like.fits ruled (row + 1) state.commits like.shows quiet)
+  insert-each = each_cut-both (IsQuiet (row + 1) words) (IsRuled 0 words) (IsShown state.commits (row + 1) words) (λ image quiet ruled. quiet-shown 0 words image like.fits ruled (row + 1) state.commits like.shows quiet)
       (insert_parts own.rows row word) words
       (inserts.quiet-cuts words 0 own.rows (entry_word (created_entry row)) row word may (past-created row below) insert-size (fits-together words like.fits)) insert-ruled
 
