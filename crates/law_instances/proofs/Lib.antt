@@ -2,3 +2,4 @@ mod FreshWords
 mod OneTransaction
 mod FirstTable
 mod WorkedImages
+mod WrittenState

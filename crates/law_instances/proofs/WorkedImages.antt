@@ -1,7 +1,7 @@
 -- Images that are written out keep the rules: that of two commits and two later columns is sound, and that of version 1
 -- is intact.
-use Rattle.std.proofs.Common.{◌≡◌, ℕ, zero, suc, ◌<◌, [], ◌++◌, length, map, refl, arith}
-use Rattle.std.specs.Prelude.{Contains, Some}
+use Rattle.std.proofs.Common.{◌≡◌, ℕ, zero, suc, ◌<◌, [], ◌∷◌, ◌++◌, length, map, refl, subst, sym, arith}
+use Rattle.std.specs.Prelude.{Contains, Some, slice_index}
 use Rattle.std.specs.List.{flat_map}
 use Rattle.std.proofs.lemmas.List.Elements.{All-cons, All-nil, Contains-append_right}
 use Rattle.image_layout.specs.EntryRules.{KeepsEntryRules, arrays_rule, entries_rule, extension_checks, last_rule, magic_rule, name_checks, name_rule, object_rule, objects_rule, since_checks, table_count_rule, table_slot_rule, text_key_checks, text_key_rule, tree_checks, tree_rule, version_rule}
@@ -11,12 +11,17 @@ use Rattle.image_layout.specs.Arrays.{array_rule, chunk_of}
 use Rattle.image_layout.specs.Blocks.{blocks_of_page, is_inside}
 use Rattle.image_layout.specs.Objects.{entry_places, pointer_after}
 use Rattle.image_layout.specs.Owners.{column_owners, extension_owners, lane_targets, next_chunk_pointers, next_extension_pointers, owner_words, unfinished_slots}
-use Rattle.image_layout.specs.Tables.{all_columns, array_headers, column_record, inner_columns, since_of, table_block, table_count}
+use Rattle.image_layout.specs.Tables.{all_columns, array_headers, column_headers, column_record, columns_of, inner_columns, since_of, table_block, table_count}
 use Rattle.image_layout.specs.Places.{below}
-use Rattle.image_layout.specs.Records.{new_leaf_at}
+use Rattle.image_layout.specs.Records.{ended_header, new_leaf_at}
 use Rattle.image_layout.proofs.Members.{Contains-here}
 use Rattle.image_layout.specs.Trees.{key_below, key_fingerprint, leaf_list, leaf_pairs, leaves_from, pairs, text_at}
 use Rattle.image_layout.proofs.Faults.{all_hold}
+use Rattle.image_layout.proofs.SoundApart.{intact_apart}
+use Rattle.image_layout.specs.Fixed.{lane_op_at}
+use Rattle.heap_palloc.specs.Index.{HeapIndex, IsIndexOf}
+use Rattle.seg_array.specs.Calls.{IsTableArray, MayPlanGrowth}
+use Rattle.seg_array.proofs.ChangesHold.{table_may_grow}
 use Rattle.shown_state.specs.CommitLaws.{two_commit_image}
 use Rattle.shown_state.specs.Fits.{BeginFirst}
 use Rattle.law_instances.specs.FirstVersion.{first_version_image, OneRowIsShown}
@@ -140,6 +145,32 @@ next_extension_is_target =
     (Contains-append_right (map (pointer_after words) (below 16))
     (flat_map (λ table. next_extension_pointers words (table_block words table)) (below (table_count words))) 4680
     (Contains-here 4680 []))))
+
+count_is : table_count two_commit_image ≡ 1
+unfolding two_commit_image
+count_is = refl
+
+block_is : table_block two_commit_image 0 ≡ 2056
+unfolding two_commit_image
+block_is = refl
+
+is_idle : slice_index two_commit_image (lane_op_at 0) ≡ 0
+unfolding two_commit_image
+is_idle = refl
+
+-- each array of the table may be planned to grow, as that of the rows' creators
+pub two_commits_have_arrays : (header : ℕ) → Contains (array_headers two_commit_image 2056) header → IsTableArray two_commit_image 0 0 header
+two_commits_have_arrays header one_of = record {
+  rules = two_commits_keep;
+  owners = intact_apart two_commit_image two_commits_are_intact;
+  published = let is = count_is in omega (arith, is);
+  one_of = subst (λ (block : ℕ). Contains (array_headers two_commit_image block) header) (sym block_is) one_of;
+  lane_is = omega arith;
+  idle = is_idle;
+}
+
+pub two_commits_may_grow : (index : HeapIndex) → IsIndexOf two_commit_image index → MayPlanGrowth two_commit_image index 0 2064
+two_commits_may_grow index index_of = table_may_grow two_commit_image index 0 0 2064 (two_commits_have_arrays 2064 (Contains-here 2064 (ended_header 2056 ∷ flat_map column_headers (columns_of two_commit_image 2056)))) index_of
 
 -- an image of one segment
 pub first_version_is_image : IsImage first_version_image

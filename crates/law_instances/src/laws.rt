@@ -3,10 +3,13 @@ ghost use Rattle.std.specs.Prelude.{◌≡◌, ℕ, ◌<◌, Contains, Some, [],
 ghost use Rattle.image_layout.specs.Fresh.{fresh_words};
 ghost use Rattle.image_layout.specs.Owners.{lane_targets};
 ghost use Rattle.image_layout.specs.SoundRules.{IsIntact, IsSound, fault};
+ghost use Rattle.image_layout.specs.Tables.{array_headers};
 ghost use Rattle.mv_model.specs.declared.reply.Entry.{Entry as Answered};
 ghost use Rattle.mv_model.specs.declared.shape.Column.{Column};
 ghost use Rattle.mv_model.specs.Consistent.{IsConsistent};
 ghost use Rattle.mv_model.specs.History.{IsLegal, state_after};
+ghost use Rattle.heap_palloc.specs.Index.{HeapIndex, IsIndexOf};
+ghost use Rattle.seg_array.specs.Calls.{IsTableArray, MayPlanGrowth};
 ghost use Rattle.txn_object.specs.declared.entry.Entry.{Entry};
 ghost use Rattle.txn_object.specs.Changes.{begun, with_entry, no_transaction};
 ghost use Rattle.txn_object.specs.Changes.{ClearsAll, ClearsCommit, IsBeginBefore, IsEntryBefore, IsSpelt};
@@ -59,22 +62,29 @@ pub fn creation_law()
         published_tables (first_words segments name columns) ≡ new_table (first_table name columns) ∷ [] }
 {}
 
-/// A formatted image shows a consistent state, and so is each state of a history that is legal from it.
+/// A formatted image shows a consistent state, and so is each state of a history that is legal from it. So is the state
+/// of the image with two commits that is written out.
 pub fn consistency_law()
     ensures formatted { (segments : ℕ) → 0 < segments → IsConsistent (logical_state (fresh_words segments)) }
     ensures histories { (segments : ℕ) (entries : List Answered) → 0 < segments →
         IsLegal (logical_state (fresh_words segments)) entries →
         IsConsistent (state_after (logical_state (fresh_words segments)) entries) }
+    ensures written { IsConsistent (logical_state two_commit_image) }
 {}
 
 /// Images that are written out keep the rules: that of two commits and two columns in extensions is sound; and that of
 /// version 1, which shows a table with a row, breaks none but that of the version, and what version 2 reads beside it is
 /// 0. So what the laws of opening's step to version 2 ask is met. In the first a lane may allocate one more extension,
-/// into the pointer in the last one.
+/// into the pointer in the last one; and each array of its table, that of its rows' creators among them, may be planned
+/// to grow.
 pub fn written_images_law()
     ensures sound { IsSound two_commit_image }
     ensures shown { OneRowIsShown }
     ensures first { fault first_version_image ≡ Some (record { rule = 31; place = 513 }) }
     ensures intact { IsImage first_version_image × IsIntact first_version_image × BeginFirst first_version_image }
     ensures next { Contains (lane_targets two_commit_image) 4680 }
+    ensures arrays { (header : ℕ) → Contains (array_headers two_commit_image 2056) header →
+        IsTableArray two_commit_image 0 0 header }
+    ensures grows { (index : HeapIndex) → IsIndexOf two_commit_image index →
+        MayPlanGrowth two_commit_image index 0 2064 }
 {}

@@ -1,4 +1,4 @@
-use Rattle.law_instances.proofs.WorkedImages.{first_version_begins, first_version_is_image, first_version_is_intact, first_version_is_old, first_version_is_shown, next_extension_is_target, two_commits_are_sound}
+use Rattle.law_instances.proofs.WorkedImages.{first_version_begins, first_version_is_image, first_version_is_intact, first_version_is_old, first_version_is_shown, next_extension_is_target, two_commits_are_sound, two_commits_have_arrays, two_commits_may_grow}
 use Rattle.law_instances.proofs.laws.written_images_law.Goals as goal
 
 pub returns : goal.returns
@@ -8,4 +8,6 @@ returns c = record {
   first = first_version_is_old;
   intact = (first_version_is_image, first_version_is_intact, first_version_begins);
   next = next_extension_is_target;
+  arrays = λ header one_of. two_commits_have_arrays header one_of;
+  grows = λ index index_of. two_commits_may_grow index index_of;
 }
