@@ -48,7 +48,8 @@ IsFirstRefusal columns records refusal =
 -- the rows are the records, each at its place
 pub record AreTyped (columns : List Column) (records : List (List (List ℕ))) (table : List (List Value)) : Type 0 where
   pub whole : length table ≡ length records
-  pub each : (place : ℕ) → place < length records → IsTyped columns (record_at records place) (slice_index_or table place [])
+  pub each : (place : ℕ) → place < length records
+      → IsTyped columns (record_at records place) (slice_index_or table place [])
 
 -- a text that is refused is refused for its first record that is no row
 abbrev pub NamesFirstBad : Type 0

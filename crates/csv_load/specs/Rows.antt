@@ -16,8 +16,8 @@ use Rattle.csv_load.specs.declared.error.LoadError.TheVariants.{BadField, WrongC
 abbrev pub text_records : List ℕ → List (List (List ℕ))
 text_records bytes = records default_config (strip_bom bytes)
 
--- The value that a field is in a column of this kind: the integer that it spells, or the text that it is, which is UTF-8
--- within the limit.
+-- The value that a field is in a column of this kind: the integer that it spells, or the text that it is, which is
+-- UTF-8 within the limit.
 abbrev pub field_value : Kind → List ℕ → Option Value
 field_value kind.Int field = option_map Int (integer_of field)
 field_value kind.Text field = if is_utf8 field && nat_le (length field) MAX_TEXT_BYTES then Some (Text field) else None
@@ -45,7 +45,8 @@ row_of nth columns fields =
     if length fields == length columns then of_record nth (values_from 1 columns fields) else Err (WrongCount nth)
 
 -- a row before those of the other records, or the first refusal
-abbrev pub row_before : Result (List Value) LoadError → Result (List (List Value)) LoadError → Result (List (List Value)) LoadError
+abbrev pub row_before : Result (List Value) LoadError → Result (List (List Value)) LoadError
+    → Result (List (List Value)) LoadError
 row_before (Err refusal) others = Err refusal
 row_before (Ok row) (Ok rows) = Ok (row ∷ rows)
 row_before (Ok row) (Err refusal) = Err refusal

@@ -29,7 +29,8 @@ fn read_next(reader: &mut Reader<&[u8]>, fields: &mut ByteRecord) -> Result<bool
     requires whole { reader_trim reader.old ≡ trim.None }
     requires ready { Ready reader.old }
     requires flexible { is_flexible reader.old ≡ true }
-    ensures read { IfOk result (λ found. ReadRecord (λ bytes. Some bytes.now) reader.old reader.new found (fields_of fields.new)) }
+    ensures read { IfOk result (λ found.
+        ReadRecord (λ bytes. Some bytes.now) reader.old reader.new found (fields_of fields.new)) }
     ensures ready { OnOk result (took_first reader.new ≡ true) }
     ensures flexible { OnOk result (is_flexible reader.new ≡ true) }
     ensures memory { IfErr result (λ error. error ≡ no_memory) }
