@@ -36,7 +36,7 @@ core_of memory opened history in_flight to_play events_left played started = rec
 
 module _ (M : Type 0) (memory after : M) (opened : List ℕ) (history new : List Entry) (to_play left events fewer played more started : ℕ) where
   pub plays-moves : (d e : Device) (actions rest : List Action) (action : Action) (before placed : Flight) (now next_now : Transactions) (plans : Plans) (base : List ℕ)
-      → actions ≡ action ∷ rest → left ≡ length rest → e ≡ acted 1 action d → ArePlaying 17 plans base d → AreAlone plans
+      → actions ≡ action ∷ rest → left ≡ length rest → e ≡ acted 1 action d → ArePlaying 17 plans base d → AreAlone 1 plans
       → HasLeft before now actions d (plans 1) base → IsBounded before actions events
       → IsPlacedAt left before placed now next_now history new → length history + pending before ≡ started
       → Stays (core_of memory opened history before to_play events played started) (core_of after opened new placed left fewer more started)

@@ -140,13 +140,13 @@ module _ (number late : ℕ) (now : Transactions) (plans : Plans) (base : List �
   pub committing-plays : late < length rest → IsCommitting number late now rest after (with_plan plans 1 (advanced (plans 1)) 1) base
   committing-plays more =
       let next = next_of in
-      let one = moved-one plans base d after action next.0 all next.1 acts in
+      let one = moved-one 1 (omega arith) plans base d after action next.0 all next.1 acts in
       record {
         actions = way.actions;
         decided = way.decided;
         halves = way.halves;
         parts = ap (λ (p : Progress). p.play.parts) one ∙ way.parts;
-        behind = next.2 ∙ ap (λ (xs : List Action). xs ++ tail) (sym (moved-left plans base d after action next.0 all next.1 acts));
+        behind = next.2 ∙ ap (λ (xs : List Action). xs ++ tail) (sym (moved-left 1 (omega arith) plans base d after action next.0 all next.1 acts));
         not_yet = not_durable action refl more;
       }
 
@@ -164,7 +164,7 @@ module _ (number late : ℕ) (now : Transactions) (plans : Plans) (base : List �
         nothing [] none = refl
         nothing (x ∷ xs) none = absurd (omega (arith, none))
 
-    pub placed-at : (ordinal : ℕ) → AreAlone plans → IsAtFence (unanswered ordinal call.Commit (reply.Committed number)) number d after
+    pub placed-at : (ordinal : ℕ) → AreAlone 1 plans → IsAtFence (unanswered ordinal call.Commit (reply.Committed number)) number d after
     placed-at ordinal others =
         let first = way.halves.first in
         let count = way.halves.count in
@@ -174,13 +174,13 @@ module _ (number late : ℕ) (now : Transactions) (plans : Plans) (base : List �
         let all_left : drop (plans 1).played ((stamps ++ front) ++ Fence ∷ []) ≡ action ∷ [] =
         ap (drop (plans 1).played) (append_assoc stamps front (Fence ∷ [])) ∙ ap (λ (ps : List Part). drop (plans 1).played (plan_of ps)) (sym way.parts) ∙ over.0 in
         let seam = at_seam (stamps ++ front) [] [] (plans 1).played Fence action all_left refl in
-        let further = moved-playing plans base d after action [] all over.0 acts in
-        let one = moved-one plans base d after action [] all over.0 acts in
-        let none = moved-left plans base d after action [] all over.0 acts in
+        let further = moved-playing 1 (omega arith) plans base d after action [] all over.0 acts in
+        let one = moved-one 1 (omega arith) plans base d after action [] all over.0 acts in
+        let none = moved-left 1 (omega arith) plans base d after action [] all over.0 acts in
         let next_plans = with_plan plans 1 (advanced (plans 1)) in
-        let alone = alone-with plans (advanced (plans 1)) others in
+        let alone = alone-with 1 plans (advanced (plans 1)) others in
         let words : finished (commit_early first count number) base ≡ after.cached =
-        ap (λ (ps : List Part). finished ps base) (sym way.parts) ∙ ap (λ (p : Progress). finished p.play.parts base) (sym one) ∙ rested-cached next_plans base after further alone none in
+        ap (λ (ps : List Part). finished ps base) (sym way.parts) ∙ ap (λ (p : Progress). finished p.play.parts base) (sym one) ∙ rested-cached 1 (omega arith) next_plans base after further alone none in
         let plan = way.halves.plan in
         let word : get_or after.cached (commit_word_at 0) 0 ≡ number = ap (λ (ws : List ℕ). get_or ws (commit_word_at 0) 0) (sym words) ∙ word_then first count number base plan.1.0.1 in
         let last : get_or after.cached last_at 0 ≡ get_or base last_at 0 = ap (λ (ws : List ℕ). get_or ws last_at 0) (sym words) ∙ last_then first count number base in
@@ -188,6 +188,6 @@ module _ (number late : ℕ) (now : Transactions) (plans : Plans) (base : List �
         record {
           fence = acts ∙ ap (λ (a : Action). acted 1 a d) seam.0;
           was = way.not_yet;
-          decided = sym (rested-clean next_plans base after further alone none (commit_word_at 0)) ∙ word;
+          decided = sym (rested-clean 1 (omega arith) next_plans base after further alone none (commit_word_at 0)) ∙ word;
           last = omega (arith, last, next);
         }

@@ -159,7 +159,7 @@ module _ (d : Device) (opened : List ℕ) (history : List Entry) (now : Transact
       let safe = safe-now in_flight events played started kept image cut in
       let way = kept.plan in
       let h = way.halves in
-      let base_is : standing kept.plans (entry ∷ []) kept.base ≡ kept.base = stands-waiting kept.plans kept.base d (has_place (entry ∷ [])) kept.playing kept.others refl in
+      let base_is : standing kept.plans (entry ∷ []) kept.base ≡ kept.base = stands-waiting 1 kept.plans kept.base d (has_place (entry ∷ [])) kept.playing kept.others refl in
       let is_before : state_after (logical_state opened) history ≡ state_of kept.base now = kept.represents ∙ ap (λ (ws : List ℕ). state_of ws now) base_is in
       let is_then : state_after (logical_state opened) (history ++ entry ∷ []) ≡ state_of (words_after way.actions kept.base) (none_open now) =
       state_after-more (logical_state opened) history entry ∙ ap (λ (s : State). next s 1 call.Commit (reply.Committed number)) is_before ∙ way.decided.state in

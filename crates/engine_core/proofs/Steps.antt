@@ -69,18 +69,18 @@ module _ (opened : List ℕ) where
       → IsKept d opened history now left (flight.Placed given) events played started → IsKept after opened history now rest (flight.Placed given) fewer (played + 1) started
   plays_placed d after history now left rest action given events fewer played started is acts one kept =
       let first : left_of (kept.plans 1) ≡ action ∷ rest = sym kept.plan ∙ is in
-      let same : standing (moved kept.plans kept.base d after action rest kept.playing first acts) [] kept.base ≡ standing kept.plans [] kept.base =
-      moved-stands kept.plans kept.base d after action rest kept.playing first acts (has_place []) in
+      let same : standing (moved 1 (omega arith) kept.plans kept.base d after action rest kept.playing first acts) [] kept.base ≡ standing kept.plans [] kept.base =
+      moved-stands 1 (omega arith) kept.plans kept.base d after action rest kept.playing first acts (has_place []) in
       record {
-        plans = moved kept.plans kept.base d after action rest kept.playing first acts;
+        plans = moved 1 (omega arith) kept.plans kept.base d after action rest kept.playing first acts;
         base = kept.base;
-        playing = moved-playing kept.plans kept.base d after action rest kept.playing first acts;
-        others = alone-with kept.plans (advanced (kept.plans 1)) kept.others;
-        plan = sym (moved-left kept.plans kept.base d after action rest kept.playing first acts);
+        playing = moved-playing 1 (omega arith) kept.plans kept.base d after action rest kept.playing first acts;
+        others = alone-with 1 kept.plans (advanced (kept.plans 1)) kept.others;
+        plan = sym (moved-left 1 (omega arith) kept.plans kept.base d after action rest kept.playing first acts);
         legal = kept.legal;
         represents = kept.represents ∙ ap (λ (ws : List ℕ). state_of ws now) (sym same);
         stage = subst (λ (ws : List ℕ). IsStage ws now.running) (sym same) kept.stage;
-        safe = moved-holds kept.plans kept.base d after action rest kept.playing first acts (IsSafe opened history []) kept.safe;
+        safe = moved-holds 1 (omega arith) kept.plans kept.base d after action rest kept.playing first acts (IsSafe opened history []) kept.safe;
         answers = kept.answers;
         alone = kept.alone;
         count = kept.count;
@@ -99,19 +99,19 @@ module _ (opened : List ℕ) where
       let next = next_of number late now kept.plans kept.base d after left rest action kept.playing is acts kept.bounded.0 kept.plan in
       let more = next.0 in
       let first = next.1 in
-      let same : standing (moved kept.plans kept.base d after action more kept.playing first acts) entries kept.base ≡ standing kept.plans entries kept.base =
-      moved-stands kept.plans kept.base d after action more kept.playing first acts (has_place entries) in
+      let same : standing (moved 1 (omega arith) kept.plans kept.base d after action more kept.playing first acts) entries kept.base ≡ standing kept.plans entries kept.base =
+      moved-stands 1 (omega arith) kept.plans kept.base d after action more kept.playing first acts (has_place entries) in
       record {
-        plans = moved kept.plans kept.base d after action more kept.playing first acts;
+        plans = moved 1 (omega arith) kept.plans kept.base d after action more kept.playing first acts;
         base = kept.base;
-        playing = moved-playing kept.plans kept.base d after action more kept.playing first acts;
-        others = alone-with kept.plans (advanced (kept.plans 1)) kept.others;
+        playing = moved-playing 1 (omega arith) kept.plans kept.base d after action more kept.playing first acts;
+        others = alone-with 1 kept.plans (advanced (kept.plans 1)) kept.others;
         plan = committing-plays number late now kept.plans kept.base d after left rest action kept.playing is acts kept.bounded.0 kept.plan
             (let below = kept.bounded.0 in let size = ap length is in omega (arith, below, size, apart));
         legal = kept.legal;
         represents = kept.represents ∙ ap (λ (ws : List ℕ). state_of ws now) (sym same);
         stage = subst (λ (ws : List ℕ). IsStage ws now.running) (sym same) kept.stage;
-        safe = moved-holds kept.plans kept.base d after action more kept.playing first acts (IsSafe opened history entries) kept.safe;
+        safe = moved-holds 1 (omega arith) kept.plans kept.base d after action more kept.playing first acts (IsSafe opened history entries) kept.safe;
         answers = kept.answers;
         alone = kept.alone;
         count = kept.count;
@@ -136,54 +136,54 @@ module _ (opened : List ℕ) where
       let early = commit_early h.first h.count number in
       let second = commit_late h.count number in
       let over = first-over number late now kept.plans kept.base d after left rest action kept.playing is acts kept.bounded.0 way at in
-      let plans = moved kept.plans kept.base d after action [] kept.playing over.0 acts in
-      let playing = moved-playing kept.plans kept.base d after action [] kept.playing over.0 acts in
-      let others = alone-with kept.plans (advanced (kept.plans 1)) kept.others in
-      let gone = moved-left kept.plans kept.base d after action [] kept.playing over.0 acts in
+      let plans = moved 1 (omega arith) kept.plans kept.base d after action [] kept.playing over.0 acts in
+      let playing = moved-playing 1 (omega arith) kept.plans kept.base d after action [] kept.playing over.0 acts in
+      let others = alone-with 1 kept.plans (advanced (kept.plans 1)) kept.others in
+      let gone = moved-left 1 (omega arith) kept.plans kept.base d after action [] kept.playing over.0 acts in
       -- the states before and after
       let before = state_of kept.base now in
       let then = state_of (words_after way.actions kept.base) (none_open now) in
-      let base_is : standing kept.plans (entry ∷ []) kept.base ≡ kept.base = stands-waiting kept.plans kept.base d (has_place (entry ∷ [])) kept.playing kept.others refl in
+      let base_is : standing kept.plans (entry ∷ []) kept.base ≡ kept.base = stands-waiting 1 kept.plans kept.base d (has_place (entry ∷ [])) kept.playing kept.others refl in
       let is_before : state_after (logical_state opened) history ≡ before = kept.represents ∙ ap (λ (ws : List ℕ). state_of ws now) base_is in
       let is_then : state_after (logical_state opened) (history ++ entry ∷ []) ≡ then =
       state_after-more (logical_state opened) history entry ∙ ap (λ (s : State). next s 1 call.Commit (reply.Committed number)) is_before ∙ way.decided.state in
       -- the words at the fence
       let words : finished early kept.base ≡ after.cached =
       ap (λ (ps : List Part). finished ps kept.base) (sym way.parts)
-      ∙ ap (λ (p : Progress). finished p.play.parts kept.base) (sym (moved-one kept.plans kept.base d after action [] kept.playing over.0 acts))
-      ∙ rested-cached plans kept.base after playing others gone in
+      ∙ ap (λ (p : Progress). finished p.play.parts kept.base) (sym (moved-one 1 (omega arith) kept.plans kept.base d after action [] kept.playing over.0 acts))
+      ∙ rested-cached 1 (omega arith) plans kept.base after playing others gone in
       let placed = IsSafe opened (history ++ entry ∷ []) [] in
       let certain : HoldsAtEachCut 17 placed plans kept.base = holds-map 17 (IsSafe opened history (entry ∷ [])) placed plans kept.base
       (λ few image later safe. placed-safe opened history before then is_before number (length history + 1) h.rows is_then few image
       (let most = subst (λ (xs : List Action). few 1 ≤ length xs) gone (later 1 (omega arith)) in omega (arith, most)) safe)
-      (moved-holds kept.plans kept.base d after action [] kept.playing over.0 acts (IsSafe opened history (entry ∷ [])) kept.safe) in
+      (moved-holds 1 (omega arith) kept.plans kept.base d after action [] kept.playing over.0 acts (IsSafe opened history (entry ∷ [])) kept.safe) in
       -- the second half
-      let rest_plans = rested plans kept.base after playing others gone after.cached in
-      let rest_playing = rested-playing plans kept.base after playing others gone in
-      let rest_idle = rested-idle plans kept.base after playing others gone after.cached in
+      let rest_plans = rested 1 (omega arith) plans kept.base after playing others gone after.cached in
+      let rest_playing = rested-playing 1 (omega arith) plans kept.base after playing others gone in
+      let rest_idle = rested-idle 1 (omega arith) plans kept.base after playing others gone after.cached in
       let plan : IsPlan (length after.cached) second = subst (λ (n : ℕ). IsPlan n second) (playing.size) h.plan.1.1 in
-      let moved_safe = rested-holds plans kept.base after playing others gone placed certain in
+      let moved_safe = rested-holds 1 (omega arith) plans kept.base after playing others gone placed certain in
       let safe = holds-now 17 rest_plans after.cached after rest_playing placed moved_safe after.cached (record { size = sym rest_playing.whole; each = λ w. inr refl }) in
       let like : IsLike (commit_reads h.first h.count) then after.cached after.cached = record { size = refl; same = λ w hit. refl; fits = safe.fits; shows = safe-shows opened (history ++ entry ∷ []) then is_then (λ s. length (left_of (rest_plans s))) after.cached safe } in
-      let law = survives-like placed placed then (IsShown then.commits 0) (IsShown then.commits 0) (commit_reads h.first h.count) after.cached second plan like
+      let law = survives-like 1 placed placed then (IsShown then.commits 0) (IsShown then.commits 0) (commit_reads h.first h.count) after.cached second plan like
       (λ now_words here. h.later now_words (subst (λ (ws : List ℕ). IsLike (commit_reads h.first h.count) then ws now_words) (sym words) here))
       (λ now_words here. each_cut-end (IsShown then.commits 0 now_words) second now_words (h.later now_words (subst (λ (ws : List ℕ). IsLike (commit_reads h.first h.count) then ws now_words) (sym words) here)))
       (λ counts now_words safe. (safe.fits, safe-shows opened (history ++ entry ∷ []) then is_then (without 1 counts) now_words safe))
       (λ counts now_words image safe some shown. certain-safe opened (history ++ entry ∷ []) then is_then counts now_words image safe shown)
       (λ counts now_words image safe nothing shown. certain-safe opened (history ++ entry ∷ []) then is_then counts now_words image safe shown) in
-      let reached : words_after way.actions kept.base ≡ standing (joined rest_plans after rest_playing rest_idle second plan) [] after.cached =
+      let reached : words_after way.actions kept.base ≡ standing (joined 1 (omega arith) rest_plans after rest_playing rest_idle second plan) [] after.cached =
       ap (λ (xs : List Action). words_after xs kept.base) h.plan_is ∙ words_after-plan (early ++ second) kept.base ∙ ap (finished second) words
-      ∙ sym (joined-stands rest_plans after rest_playing rest_idle second plan (has_place []) refl) in
+      ∙ sym (joined-stands 1 (omega arith) rest_plans after rest_playing rest_idle second plan (has_place []) refl) in
       record {
-        plans = joined rest_plans after rest_playing rest_idle second plan;
+        plans = joined 1 (omega arith) rest_plans after rest_playing rest_idle second plan;
         base = after.cached;
-        playing = joined-playing rest_plans after rest_playing rest_idle second plan;
-        others = joined-alone rest_plans after rest_playing rest_idle second plan;
-        plan = over.1 ∙ ap left_of (sym (joined-one rest_plans after rest_playing rest_idle second plan));
+        playing = joined-playing 1 (omega arith) rest_plans after rest_playing rest_idle second plan;
+        others = joined-alone 1 (omega arith) rest_plans after rest_playing rest_idle second plan;
+        plan = over.1 ∙ ap left_of (sym (joined-one 1 (omega arith) rest_plans after rest_playing rest_idle second plan));
         legal = legal-more (logical_state opened) history entry kept.legal kept.alone refl refl (subst (λ (s : State). IsAllowed s 1 call.Commit (reply.Committed number)) (sym is_before) way.decided.allowed);
         represents = is_then ∙ ap (λ (ws : List ℕ). state_of ws (none_open now)) reached;
         stage = subst (λ (ws : List ℕ). IsStage ws None) reached way.decided.stage;
-        safe = joined-holds rest_plans after rest_playing rest_idle second plan placed placed (commit_reads h.first h.count) law moved_safe;
+        safe = joined-holds 1 (omega arith) rest_plans after rest_playing rest_idle second plan placed placed (commit_reads h.first h.count) law moved_safe;
         answers = record { front = history; last = entry; is = refl; given_before = kept.answers; open_still = refl; reply = refl };
         alone = of_one-more history entry kept.alone refl;
         count = let c = kept.count in omega (arith, c, size_more);
@@ -223,7 +223,7 @@ module _ (opened : List ℕ) where
 
     -- the words stand for those of the device
     stood : standing kept.plans [] kept.base ≡ d.cached
-    stood = rested-stands kept.plans kept.base d kept.playing kept.others gone (has_place []) refl
+    stood = rested-stands 1 (omega arith) kept.plans kept.base d kept.playing kept.others gone (has_place []) refl
 
     -- the state before it
     pub state_now : state_after (logical_state opened) history ≡ state_of d.cached now
@@ -245,16 +245,16 @@ module _ (opened : List ℕ) where
 
     -- nothing is played
     abbrev idle_plans : Plans
-    idle_plans = rested kept.plans kept.base d kept.playing kept.others gone d.cached
+    idle_plans = rested 1 (omega arith) kept.plans kept.base d kept.playing kept.others gone d.cached
 
     idle_playing : ArePlaying 17 idle_plans d.cached d
-    idle_playing = rested-playing kept.plans kept.base d kept.playing kept.others gone
+    idle_playing = rested-playing 1 (omega arith) kept.plans kept.base d kept.playing kept.others gone
 
     idle_all : (session w : ℕ) → (idle_plans session).play.own w ≡ false
-    idle_all = rested-idle kept.plans kept.base d kept.playing kept.others gone d.cached
+    idle_all = rested-idle 1 (omega arith) kept.plans kept.base d kept.playing kept.others gone d.cached
 
     idle_holds : HoldsAtEachCut 17 (IsSafe opened history []) idle_plans d.cached
-    idle_holds = rested-holds kept.plans kept.base d kept.playing kept.others gone (IsSafe opened history []) kept.safe
+    idle_holds = rested-holds 1 (omega arith) kept.plans kept.base d kept.playing kept.others gone (IsSafe opened history []) kept.safe
 
     decides_now : (next_now : Transactions) (given copy : Reply) (actions : List Action) (fewer : ℕ)
         → events ≡ fewer + 1 → copy ≡ given → IsPlacedLate None said given actions → IsDecided d.cached now said given actions next_now
@@ -272,22 +272,22 @@ module _ (opened : List ℕ) where
         let s = survives safe_now.fits in
         let words : words_after actions d.cached ≡ finished s.parts d.cached = ap (λ (xs : List Action). words_after xs d.cached) s.plan_is ∙ words_after-plan s.parts d.cached in
         let placed = IsSafe opened (history ++ entry ∷ []) [] in
-        let law = survives-like (IsSafe opened history []) placed before (IsShown before.commits s.bound) (λ words image. IsShown before.commits s.bound words image × (s.bound ≤ next_row image)) s.reads d.cached s.parts s.plan (like_now s.reads)
+        let law = survives-like 1 (IsSafe opened history []) placed before (IsShown before.commits s.bound) (λ words image. IsShown before.commits s.bound words image × (s.bound ≤ next_row image)) s.reads d.cached s.parts s.plan (like_now s.reads)
         s.each (λ words like. (each_cut-end (IsShown before.commits s.bound words) s.parts words (s.each words like), s.end words like)) safe_gives
         (λ left words image safe some shown. decided-safe opened history before then state_now words left said given (length history + 1) s.bound is_then s.commits s.rows s.most image safe some shown)
         (λ left words image safe nothing shown. decided-ends opened history before then state_now words left said given (length history + 1) s.bound is_then s.commits s.rows s.most image safe s.below shown) in
-        let reached : words_after actions d.cached ≡ standing (joined idle_plans d idle_playing idle_all s.parts s.plan) [] d.cached =
-        words ∙ sym (joined-stands idle_plans d idle_playing idle_all s.parts s.plan (has_place []) refl) in
+        let reached : words_after actions d.cached ≡ standing (joined 1 (omega arith) idle_plans d idle_playing idle_all s.parts s.plan) [] d.cached =
+        words ∙ sym (joined-stands 1 (omega arith) idle_plans d idle_playing idle_all s.parts s.plan (has_place []) refl) in
         record {
-          plans = joined idle_plans d idle_playing idle_all s.parts s.plan;
+          plans = joined 1 (omega arith) idle_plans d idle_playing idle_all s.parts s.plan;
           base = d.cached;
-          playing = joined-playing idle_plans d idle_playing idle_all s.parts s.plan;
-          others = joined-alone idle_plans d idle_playing idle_all s.parts s.plan;
-          plan = s.plan_is ∙ ap left_of (sym (joined-one idle_plans d idle_playing idle_all s.parts s.plan));
+          playing = joined-playing 1 (omega arith) idle_plans d idle_playing idle_all s.parts s.plan;
+          others = joined-alone 1 (omega arith) idle_plans d idle_playing idle_all s.parts s.plan;
+          plan = s.plan_is ∙ ap left_of (sym (joined-one 1 (omega arith) idle_plans d idle_playing idle_all s.parts s.plan));
           legal = legal-more (logical_state opened) history entry kept.legal kept.alone refl refl (subst (λ (s : State). IsAllowed s 1 said given) (sym state_now) decided.allowed);
           represents = is_then ∙ ap (λ (ws : List ℕ). state_of ws next_now) reached;
           stage = subst (λ (ws : List ℕ). IsStage ws next_now.running) reached decided.stage;
-          safe = joined-holds idle_plans d idle_playing idle_all s.parts s.plan (IsSafe opened history []) placed s.reads law idle_holds;
+          safe = joined-holds 1 (omega arith) idle_plans d idle_playing idle_all s.parts s.plan (IsSafe opened history []) placed s.reads law idle_holds;
           answers = record { front = history; last = entry; is = refl; given_before = kept.answers; open_still = refl; reply = sym copied };
           alone = of_one-more history entry kept.alone refl;
           count = let c = kept.count in omega (arith, c, size_more);
@@ -320,31 +320,31 @@ module _ (opened : List ℕ) where
       let playing = idle_playing d history now call.Commit events played started kept in
       let all = idle_all d history now call.Commit events played started kept in
       let due_then = IsSafe opened history (entry ∷ []) in
-      let law = survives-like (IsSafe opened history []) due_then before (IsShownUntil before then number) (λ words image. IsShownUntil before then number words image × IsShown then.commits 0 words image)
+      let law = survives-like 1 (IsSafe opened history []) due_then before (IsShownUntil before then number) (λ words image. IsShownUntil before then number words image × IsShown then.commits 0 words image)
       (commit_reads h.first h.count) d.cached early plan (like_now d history now call.Commit events played started kept (commit_reads h.first h.count))
       h.early (λ words like. (each_cut-end (IsShownUntil before then number words) early words (h.early words like), h.decided words like)) (safe_gives d history now call.Commit events played started kept)
       (λ left words image safe some shown. until-safe opened history before then is_before words left number (length history + 1) is_then image safe some shown)
       (λ left words image safe nothing shown. until-ends opened history before then is_before words left number (length history + 1) is_then image safe shown) in
-      let stays : standing (joined plans d playing all early plan) (entry ∷ []) d.cached ≡ d.cached =
-      stands-waiting (joined plans d playing all early plan) d.cached d (has_place (entry ∷ [])) (joined-playing plans d playing all early plan) (joined-alone plans d playing all early plan) refl in
-      let mine = joined-one plans d playing all early plan in
+      let stays : standing (joined 1 (omega arith) plans d playing all early plan) (entry ∷ []) d.cached ≡ d.cached =
+      stands-waiting 1 (joined 1 (omega arith) plans d playing all early plan) d.cached d (has_place (entry ∷ [])) (joined-playing 1 (omega arith) plans d playing all early plan) (joined-alone 1 (omega arith) plans d playing all early plan) refl in
+      let mine = joined-one 1 (omega arith) plans d playing all early plan in
       record {
-        plans = joined plans d playing all early plan;
+        plans = joined 1 (omega arith) plans d playing all early plan;
         base = d.cached;
-        playing = joined-playing plans d playing all early plan;
-        others = joined-alone plans d playing all early plan;
+        playing = joined-playing 1 (omega arith) plans d playing all early plan;
+        others = joined-alone 1 (omega arith) plans d playing all early plan;
         plan = record {
           actions = actions;
           decided = decided;
           halves = h;
           parts = ap (λ (p : Progress). p.play.parts) mine;
           behind = h.plan_is ∙ flat_map-append part_actions early second ∙ ap (λ (p : Progress). left_of p ++ plan_of second) (sym mine);
-          not_yet = sym (rested-clean kept.plans kept.base d kept.playing kept.others (sym kept.plan) (commit_word_at 0)) ∙ h.unset;
+          not_yet = sym (rested-clean 1 (omega arith) kept.plans kept.base d kept.playing kept.others (sym kept.plan) (commit_word_at 0)) ∙ h.unset;
         };
         legal = kept.legal;
         represents = is_before ∙ ap (λ (ws : List ℕ). state_of ws now) (sym stays);
         stage = subst (λ (ws : List ℕ). IsStage ws now.running) (sym stays) (stage_now d history now call.Commit events played started kept);
-        safe = joined-holds plans d playing all early plan (IsSafe opened history []) due_then (commit_reads h.first h.count) law (idle_holds d history now call.Commit events played started kept);
+        safe = joined-holds 1 (omega arith) plans d playing all early plan (IsSafe opened history []) due_then (commit_reads h.first h.count) law (idle_holds d history now call.Commit events played started kept);
         answers = kept.answers;
         alone = kept.alone;
         count = kept.count;
@@ -447,7 +447,7 @@ module _ (opened : List ℕ) where
   legal-due d history now left (flight.Placed given) events played started kept = subst (λ (h : List Entry). IsLegal (logical_state opened) h) (sym (append-nil history)) kept.legal
   legal-due d history now left (flight.Committing number late) events played started kept =
       let entry = unanswered (length history + 1) call.Commit (reply.Committed number) in
-      let base_is : standing kept.plans (entry ∷ []) kept.base ≡ kept.base = stands-waiting kept.plans kept.base d (has_place (entry ∷ [])) kept.playing kept.others refl in
+      let base_is : standing kept.plans (entry ∷ []) kept.base ≡ kept.base = stands-waiting 1 kept.plans kept.base d (has_place (entry ∷ [])) kept.playing kept.others refl in
       legal-more (logical_state opened) history entry kept.legal kept.alone refl refl
       (subst (λ (s : State). IsAllowed s 1 call.Commit (reply.Committed number)) (sym (kept.represents ∙ ap (λ (ws : List ℕ). state_of ws now) base_is)) kept.plan.decided.allowed)
 
@@ -455,7 +455,7 @@ module _ (opened : List ℕ) where
   pub rests : (d : Device) (history : List Entry) (now : Transactions) (left : List Action) (in_flight : Flight) (events played started : ℕ) → IsKept d opened history now left in_flight events played started
       → in_flight_of in_flight ≡ Nothing → d.durable ≡ d.cached
   rests d history now left flight.Idle events played started kept none =
-      let clean = rested-clean kept.plans kept.base d kept.playing kept.others (sym kept.plan ∙ kept.bounded) in
+      let clean = rested-clean 1 (omega arith) kept.plans kept.base d kept.playing kept.others (sym kept.plan ∙ kept.bounded) in
       ext_words d.durable d.cached kept.playing.whole (λ w. sym (clean w))
   rests d history now left (flight.Waiting said) events played started kept none = cc
   rests d history now left (flight.Committing number late) events played started kept none = cc
