@@ -24,13 +24,14 @@ use Rattle.heap_palloc.proofs.LiveBlocks.{SameHeap}
 use Rattle.shown_state.specs.Fits.{Fits}
 use Rattle.shown_state.specs.Logs.{LaneFits}
 use Rattle.shown_state.specs.Mending.{cleared_mark, lane_mending, release_part}
-use Rattle.shown_state.specs.OpeningParts.{FitsStill, IsImage, StepKeeps}
+use Rattle.shown_state.specs.OpeningParts.{IsImage}
 use Rattle.shown_state.specs.StepLaws.{AreIdle, LanesKeep}
 use Rattle.shown_state.proofs.LaneMending.{at_work, AtWork, block_page, block_pointer, block_slot, has_mark, HasMark, mending-done, mending-freeing, mending-idle, mending-undone, owner_no_mark, pointer_parts}
+use Rattle.opening_steps.specs.QuietImages.{StaysPlain}
 use Rattle.opening_steps.proofs.LanesFit.{cut_still}
 use Rattle.opening_steps.proofs.LaneSpots.{IsLaneWrite, op_kept, target_spot, the_mark, the_op, the_owner}
 use Rattle.opening_steps.proofs.Released.{heap_same, IsBlockPlace, released_goes_on}
-use Rattle.opening_steps.proofs.Steps.{keeps_by}
+use Rattle.opening_steps.proofs.Steps.{plain_as_it_is, plain_by, plain_keeps, StepIsPlain}
 
 -- ── the word that a lane allocates into, where it names a block, is an owner's ──
 
@@ -214,7 +215,7 @@ module _ (words : List ℕ) (lane : ℕ) (image : IsImage words) (number : lane 
       let back : page_of owner ≡ page = omega (arith, e) in
       spot.no_bitmap (ap (is_small_page words) back ∙ small) (omega (arith, e)))
 
-  unreleased : (new : List ℕ) → IsWritten new → get_or new mark 0 ≡ get_or words mark 0 → (get_or new op_at 0 ≡ 0 → get_or new owner 0 ≡ pointer) → FitsStill words new
+  unreleased : (new : List ℕ) → IsWritten new → get_or new mark 0 ≡ get_or words mark 0 → (get_or new op_at 0 ≡ 0 → get_or new owner 0 ≡ pointer) → StaysPlain words new
   unreleased new is kept owned = cut_still words new lane (λ place. ⊥) image number fits (record {
     size = is.size;
     each = each new is;
@@ -239,7 +240,7 @@ module _ (words : List ℕ) (lane : ℕ) (image : IsImage words) (number : lane 
         };
       }
 
-  released : (new : List ℕ) → IsWritten new → get_or new mark 0 ≡ clear → get_or new owner 0 ≢ pointer → FitsStill words new
+  released : (new : List ℕ) → IsWritten new → get_or new mark 0 ≡ clear → get_or new owner 0 ≢ pointer → StaysPlain words new
   released new is cleared other = cut_still words new lane (λ place. place ≡ block) image number fits (record {
     size = is.size;
     each = each new is;
@@ -307,16 +308,16 @@ module _ (words : List ℕ) (lane : ℕ) (image : IsImage words) (number : lane 
 
   -- ── the three ways ──
 
-  owned_step : op ≡ 1 → get_or words owner 0 ≡ pointer → StepKeeps (AreIdle (lane + 1)) (lane_mending lane) words
+  owned_step : op ≡ 1 → get_or words owner 0 ≡ pointer → StepIsPlain (AreIdle (lane + 1)) (lane_mending lane) words
   owned_step one owned =
       let after = unreleased (set words op_at 0) (idle_next words start) (get_or-set_other words op_at mark 0 0 (λ e. no_mark (sym e)))
       (λ none. get_or-set_other words op_at owner 0 0 (λ e. no_owner (sym e)) ∙ owned) in
-      keeps_by (AreIdle (lane + 1)) (lane_mending lane) words (one_store op_at 0 ∷ []) (mending-done words lane one owned)
+      plain_by (AreIdle (lane + 1)) (lane_mending lane) words (one_store op_at 0 ∷ []) (mending-done words lane one owned)
       ((op_inside, tt), tt)
-      (cut-one_store (FitsStill words) op_at 0 words (record { fits = fits; shows = refl }) after, after)
+      (cut-one_store (StaysPlain words) op_at 0 words (plain_as_it_is words fits) after, after)
       (ends_idle words start)
 
-  undone_step : op ≡ 1 → get_or words owner 0 ≢ pointer → StepKeeps (AreIdle (lane + 1)) (lane_mending lane) words
+  undone_step : op ≡ 1 → get_or words owner 0 ≢ pointer → StepIsPlain (AreIdle (lane + 1)) (lane_mending lane) words
   undone_step one other =
       let half = set words mark clear in
       let mark_is = get_or-set_same words mark clear 0 has.within in
@@ -324,14 +325,14 @@ module _ (words : List ℕ) (lane : ℕ) (image : IsImage words) (number : lane 
       let first = released half (mark_next words start) mark_is (λ e. other (sym owner_same ∙ e)) in
       let second = released (set half op_at 0) (idle_next half (mark_next words start)) (get_or-set_other half op_at mark 0 0 (λ e. no_mark (sym e)) ∙ mark_is)
       (λ e. other (sym owner_same ∙ sym (get_or-set_other half op_at owner 0 0 (λ f. no_owner (sym f))) ∙ e)) in
-      keeps_by (AreIdle (lane + 1)) (lane_mending lane) words (release_part words block ∷ one_store op_at 0 ∷ []) (mending-undone words lane one other)
+      plain_by (AreIdle (lane + 1)) (lane_mending lane) words (release_part words block ∷ one_store op_at 0 ∷ []) (mending-undone words lane one other)
       ((has.within, tt), ((op_inside, tt), tt)) (
-        cut-one_store (FitsStill words) mark clear words (record { fits = fits; shows = refl }) first,
-        (cut-one_store (FitsStill words) op_at 0 half first second, second),
+        cut-one_store (StaysPlain words) mark clear words (plain_as_it_is words fits) first,
+        (cut-one_store (StaysPlain words) op_at 0 half first second, second),
       )
       (ends_idle half (mark_next words start))
 
-  freeing_step : op ≡ 2 → StepKeeps (AreIdle (lane + 1)) (lane_mending lane) words
+  freeing_step : op ≡ 2 → StepIsPlain (AreIdle (lane + 1)) (lane_mending lane) words
   freeing_step two =
       let bare = set words owner 0 in
       let half = set bare mark clear in
@@ -344,25 +345,28 @@ module _ (words : List ℕ) (lane : ℕ) (image : IsImage words) (number : lane 
       let second = released half (mark_next bare bare_is) mark_is (λ e. pointer_some (sym e ∙ half_null)) in
       let third = released (set half op_at 0) (idle_next half (mark_next bare bare_is)) (get_or-set_other half op_at mark 0 0 (λ e. no_mark (sym e)) ∙ mark_is)
       (λ e. pointer_some (sym e ∙ get_or-set_other half op_at owner 0 0 (λ f. no_owner (sym f)) ∙ half_null)) in
-      keeps_by (AreIdle (lane + 1)) (lane_mending lane) words (one_store owner 0 ∷ release_part words block ∷ one_store op_at 0 ∷ []) (mending-freeing words lane two)
+      plain_by (AreIdle (lane + 1)) (lane_mending lane) words (one_store owner 0 ∷ release_part words block ∷ one_store op_at 0 ∷ []) (mending-freeing words lane two)
       ((spot.in_image, tt), ((has.within, tt), ((op_inside, tt), tt))) (
-        cut-one_store (FitsStill words) owner 0 words (record { fits = fits; shows = refl }) first,
+        cut-one_store (StaysPlain words) owner 0 words (plain_as_it_is words fits) first,
         (
-          cut-one_store (FitsStill words) mark clear bare first second,
-          (cut-one_store (FitsStill words) op_at 0 half second third, third),
+          cut-one_store (StaysPlain words) mark clear bare first second,
+          (cut-one_store (StaysPlain words) op_at 0 half second third, third),
         ),
       )
       (ends_idle half (mark_next bare bare_is))
 
-  busy_step : StepKeeps (AreIdle (lane + 1)) (lane_mending lane) words
+  busy_step : StepIsPlain (AreIdle (lane + 1)) (lane_mending lane) words
   busy_step = ⊎_elim
       (λ one. ⊎_elim (λ owned. owned_step one owned) (λ other. undone_step one other) (cases_eq (get_or words owner 0) pointer))
       (λ two. freeing_step two) work.op
 
-pub lanes_keep : LanesKeep
-lanes_keep words lane image number fits idle = ⊎_elim
-    (λ none. keeps_by (AreIdle (lane + 1)) (lane_mending lane) words [] (mending-idle words lane none) tt
-    (record { fits = fits; shows = refl })
+pub lanes_are_plain : (words : List ℕ) (lane : ℕ) → IsImage words → lane < 16 → Fits words → AreIdle lane words → StepIsPlain (AreIdle (lane + 1)) (lane_mending lane) words
+lanes_are_plain words lane image number fits idle = ⊎_elim
+    (λ none. plain_by (AreIdle (lane + 1)) (lane_mending lane) words [] (mending-idle words lane none) tt
+    (plain_as_it_is words fits)
     (λ one lt. ⊎_elim (λ (e : one ≡ lane). ap (λ (l : ℕ). get_or words (lane_op_at l) 0) e ∙ none) (λ apart. idle one (omega (arith, lt, apart))) (cases_eq one lane)))
     (λ busy. busy_step words lane image number fits idle busy)
     (cases_eq (get_or words (lane_op_at lane) 0) 0)
+
+pub lanes_keep : LanesKeep
+lanes_keep words lane image number fits idle = plain_keeps (AreIdle (lane + 1)) (lane_mending lane) words (lanes_are_plain words lane image number fits idle)

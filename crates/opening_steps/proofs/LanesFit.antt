@@ -1,8 +1,9 @@
 -- An image that a cut of the mending of a lane leaves fits as the words did, and shows the same.
 use Rattle.std.proofs.Common.{◌≡◌, ◌≢◌, ◌⊎◌, inl, inr, ⊎_elim, ℕ, ◌+◌, ◌-◌, ◌%◌, ◌^◌, ◌<◌, ◌≤◌, Bool, true, false, not, ◌&&◌, ◌||◌, eqb, leb, ltb, List, [], ◌∷◌, length, get_or, map, refl, sym, ◌∙◌, ap, subst, arith}
-use Rattle.std.specs.Prelude.{All, AllPairs, Contains, IsTrue, filter}
+use Rattle.std.specs.Prelude.{All, AllPairs, Contains, IsTrue, filter, take}
 use Rattle.std.specs.List.{flat_map, list_any, range_with_len}
 use Rattle.std.proofs.lemmas.Bool.{and_from, and_parts, both_ways, cases_Bool, cases_eq, cond-false, cond-true, eq-eqb, eqb-true, le-ltb, ne_eqb, not-true, or_cases, or_left, or_right}
+use Rattle.std.proofs.lemmas.List.{take_all}
 use Rattle.std.proofs.lemmas.List.Elements.{All-contains, Contains-append_cases, Contains-append_left, Contains-append_right, Contains-get_or}
 use Rattle.std.proofs.lemmas.List.FromFn.{get_or-range_with_len, length-range_with_len}
 use Rattle.image_layout.specs.Arrays.{capacity, chunk_of, place_of}
@@ -11,7 +12,7 @@ use Rattle.image_layout.specs.Checks.{Check, check, Keeps}
 use Rattle.image_layout.specs.EntryRules.{is_table_pointer, is_table_slot, table_slot_checks, table_slot_rule, text_columns}
 use Rattle.image_layout.specs.Fixed.{lane_dest_at, lane_op_at, table_slot_at, version_at}
 use Rattle.image_layout.specs.HeapRules.{is_lane, lane_rule}
-use Rattle.image_layout.specs.Owners.{busy_lanes, firm_owners, is_replaced, is_replaced_in, lane_block, lane_owner, lane_targets, NameApart, names_one, new_leaf_owners, Owner, owner_places, owner_words, OwnersAreApart, owns_block, unfinished_slots, word_of}
+use Rattle.image_layout.specs.Owners.{busy_lanes, firm_owners, is_replaced, is_replaced_in, lane_block, lane_owner, lane_targets, NameApart, names_one, new_leaf_owners, next_table_slots, next_text_slots, Owner, owner_places, owner_words, OwnersAreApart, owns_block, unfinished_slots, word_of}
 use Rattle.image_layout.specs.Places.{below, is_pointer, page_at, page_count, page_of, place_in}
 use Rattle.image_layout.specs.Pointer.{pointer_word}
 use Rattle.image_layout.specs.Records.{dictionary_header, first_leaf_at, new_leaf_at, next_leaf_at, split_leaf_at}
@@ -31,10 +32,11 @@ use Rattle.heap_palloc.proofs.RulesKept.{rules_at}
 use Rattle.shown_state.specs.Fits.{Fits, later_slot_rule, later_slots, spoken_for}
 use Rattle.shown_state.specs.LaneRules.{KeepsLaneRules}
 use Rattle.shown_state.specs.Logs.{BeginsPages, LaneFits, LogsFit, SlotFits, SplitFits}
-use Rattle.shown_state.specs.OpeningParts.{FitsStill, IsImage}
+use Rattle.shown_state.specs.OpeningParts.{IsImage}
 use Rattle.shown_state.specs.ReadLaws.{FitsBeside, OwnedAlike, ReadAlike, TreesAlike}
 use Rattle.shown_state.specs.Reads.{in_column, in_head, in_leaf, SameReads}
 use Rattle.shown_state.proofs.Alike.{any_members, filter_alike, flat_map_alike, map_alike}
+use Rattle.shown_state.proofs.Ends.{all_few}
 use Rattle.shown_state.proofs.LaneMending.{at_work, AtWork, block_pointer, pointer_parts}
 use Rattle.shown_state.proofs.ReadLaw.{reads_decide, reads_fit}
 use Rattle.shown_state.proofs.SameLeaves.{split_stored, stored_listed}
@@ -42,8 +44,10 @@ use Rattle.shown_state.proofs.SameTreeRules.{pointer_is_same}
 use Rattle.shown_state.proofs.SameTables.{dictionary_is, IsHeader}
 use Rattle.shown_state.proofs.ValuesApart.{chunk_home, in_chunk}
 use Rattle.shown_state.proofs.Walks.{pointers_name_their_place}
+use Rattle.opening_steps.specs.QuietImages.{NothingIsNew, StaysPlain}
 use Rattle.opening_steps.proofs.Idle.{null_behind}
 use Rattle.opening_steps.proofs.LaneSpots.{block_kept, firm_kept, heap_rules, IsLaneWrite, lane_word, the_mark, the_op, the_owner, op_kept, owner_kept, owner_word_kept, precedes_at, precedes_whole, reads_same, same_places, spot_kept, target_spot}
+use Rattle.opening_steps.proofs.OwnerPlaces.{Contains-take}
 use Rattle.opening_steps.proofs.Released.{HeapGoesOn}
 use Rattle.opening_steps.proofs.Slots.{null_slot, slots_kept}
 use Rattle.opening_steps.proofs.Structure.{SamePlaces}
@@ -695,5 +699,35 @@ module _ (old new : List ℕ) (lane : ℕ) (gone : ℕ → Type 0) (image : IsIm
       rules : KeepsHeapRules new
       rules = heap.rules
 
-  pub cut_still : FitsStill old new
-  cut_still = record { fits = reads_fit old new fits same beside; shows = read.state }
+  slots_null : (at : ℕ) → Contains (unfinished_slots old) at → get_or old at 0 ≡ 0 → get_or new at 0 ≡ 0
+  slots_null at is none = ⊎_elim (λ kept. kept ∙ none) (λ zeroed. zeroed.2) (word_kept at (slot_among at is))
+
+  nothing_new : NothingIsNew old → NothingIsNew new
+  nothing_new plain =
+      let columns = all_columns old in
+      let texts = flat_map (next_text_slots old) columns in
+      let few : All (λ column. All (λ at. get_or old at 0 ≡ 0) (next_text_slots old column)) columns = subst (All (λ column. All (λ at. get_or old at 0 ≡ 0) (next_text_slots old column))) (take_all 512 columns (all_few old fits)) plain.2 in
+      let null : (at : ℕ) → Contains (unfinished_slots old) at → get_or old at 0 ≡ 0 = λ at is. ⊎_elim
+      (λ table. All-contains (λ a. get_or old a 0 ≡ 0) (next_table_slots old) at plain.1 table)
+      (λ text.
+      let (column, among, here) = Contains-flat_map (next_text_slots old) columns at text in
+      All-contains (λ a. get_or old a 0 ≡ 0) (next_text_slots old column) at (All-contains (λ c. All (λ a. get_or old a 0 ≡ 0) (next_text_slots old c)) columns column few among) here)
+      (Contains-append_cases (next_table_slots old) texts at is) in
+      let now : (at : ℕ) → Contains (unfinished_slots new) at → get_or new at 0 ≡ 0 = λ at is.
+      let was : Contains (unfinished_slots old) at = subst (λ (xs : List ℕ). Contains xs at) owned.unfinished is in slots_null at was (null at was) in
+      let news = all_columns new in (
+        subst (λ (cs : List ℕ). All (λ column. (get_or new (split_leaf_at column) 0 ≡ 0) × (get_or new (new_leaf_at column) 0 ≡ 0)) (take 512 cs)) (sym read.columns)
+            (all_from (λ column. (get_or new (split_leaf_at column) 0 ≡ 0) × (get_or new (new_leaf_at column) 0 ≡ 0)) (take 512 columns) (λ column is.
+            let of = Contains-take 512 columns column is in
+            let was = All-contains (λ c. (get_or old (split_leaf_at c) 0 ≡ 0) × (get_or old (new_leaf_at c) 0 ≡ 0)) (take 512 columns) column plain.0 is in (
+              same.each (split_leaf_at column) (in_column column 5 of (omega arith) refl) ∙ was.0,
+              same.each (new_leaf_at column) (in_column column 6 of (omega arith) refl) ∙ was.1,
+            ))),
+        all_from (λ at. get_or new at 0 ≡ 0) (next_table_slots new) (λ at is. now at (Contains-append_left (next_table_slots new) (flat_map (next_text_slots new) news) at is)),
+        all_from (λ column. All (λ at. get_or new at 0 ≡ 0) (next_text_slots new column)) (take 512 news) (λ column is.
+            all_from (λ at. get_or new at 0 ≡ 0) (next_text_slots new column) (λ at next.
+            now at (Contains-append_right (next_table_slots new) (flat_map (next_text_slots new) news) at (flat_map-Contains (next_text_slots new) news column at (Contains-take 512 news column is) next)))),
+      )
+
+  pub cut_still : StaysPlain old new
+  cut_still = record { still = record { fits = reads_fit old new fits same beside; shows = read.state }; plain = nothing_new }

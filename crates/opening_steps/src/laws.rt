@@ -56,10 +56,10 @@ pub fn version_step_law()
         → StepKeeps AreMended version_mending words }
 {}
 
-/// The law of opening where nothing is under way but transactions: no lane is at work, no split is logged, and no table
-/// and no text is half made; transactions may be in any state, and the version either one. Opening such an image goes
-/// on to its end, where it is sound and shows the same. A power cut after any of the actions leaves such an image
-/// again, which shows the same: so opening may be cut any number of times.
+/// The law of opening where no split is logged, and no table and no text is half made; lanes and transactions may be in
+/// any state, and the version either one. Opening such an image goes on to its end, where it is sound and shows the
+/// same. A power cut after any of the actions leaves such an image again, which shows the same: so opening may be cut
+/// any number of times.
 pub fn quiet_opening_law()
     ensures opens { (words : List ℕ) → IsQuiet words → OpensStill words }
     ensures cuts { (words : List ℕ) (k : ℕ) (image : List ℕ) → IsQuiet words → k ≤ length (opening_plan words)

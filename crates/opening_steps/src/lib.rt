@@ -12,7 +12,7 @@
 //! Calls, in the order of the steps: `lanes_law` (lanes at work), `last_number_law` (the last commit number),
 //! `undoing_law` (transactions that no commit has decided), `objects_law` (closing and clearing of transaction
 //! objects), `version_step_law` (from version 1 to version 2). The steps of splits, of the table slot and of texts have
-//! no law yet; where nothing is under way but transactions, `quiet_opening_law` is about opening as a whole.
+//! no law yet; where they have nothing to do, `quiet_opening_law` is about opening as a whole.
 #![tactic(auto)]
 
 mod laws;
