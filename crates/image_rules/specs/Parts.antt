@@ -3,7 +3,7 @@ use Rattle.std.specs.Prelude.{ℕ, zero, suc, ◌+◌, ◌<◌, ◌≤◌, List,
 use Rattle.std.specs.List.{flat_map}
 use Rattle.image_layout.specs.Fixed.{commit_word_at, state_at}
 use Rattle.image_layout.specs.Places.{below, is_null_or_pointer_to}
-use Rattle.image_layout.specs.Records.{column_name_at, extension_words, table_name_at, table_words}
+use Rattle.image_layout.specs.Records.{column_name_at, extension_words, new_leaf_at, split_leaf_at, table_name_at, table_words}
 use Rattle.image_layout.specs.Objects.{entry_places, segment_pointer_at}
 use Rattle.image_layout.specs.Arrays.{array_rule}
 use Rattle.image_layout.specs.Tables.{NamesExtension, array_headers, column_count, extension_count, extension_pointer_at, inner_columns}
@@ -55,7 +55,11 @@ abbrev pub table_name_checks : List ℕ → ℕ → List Check
 table_name_checks words block =
     name_checks words (table_name_at block) ++ flat_map (column_name_checks words block) (below (column_count words block))
 
--- 17, as far as it is about table slots: the one at the table count is null
+-- 17, of a column: no leaf is being split, and none is being added
+abbrev pub log_checks : List ℕ → ℕ → List Check
+log_checks words column = zero_check words (split_leaf_at column) ∷ zero_check words (new_leaf_at column) ∷ []
+
+-- and of the table slots: the one at the table count is null
 unfoldable pub next_slot_rule : Rule
 next_slot_rule words = map (zero_check words) (next_table_slots words)
 

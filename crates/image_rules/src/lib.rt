@@ -34,6 +34,7 @@ mod owner_rules;
 mod owner_words;
 mod pointers;
 mod rest_rules;
+mod split_rules;
 mod stamp_rules;
 mod table_rules;
 
@@ -50,7 +51,8 @@ pub use object_rules::objects_fault;
 pub use owner_laws::built_owners_law;
 pub use owner_rules::{owned_fault, owner_fault, single_owner_fault};
 pub use pointers::{is_block_pointer, is_null_or_words, pointed_place, pointed_words};
-pub use rest_rules::{closed_fault, given_back_fault, idle_fault, next_slot_fault};
+pub use rest_rules::{closed_fault, given_back_fault, idle_fault};
+pub use split_rules::split_log_fault;
 pub use stamp_rules::stamp_fault;
 pub use table_rules::{
     columns_of, published_tables, table_block, table_count_fault, table_slot_fault,

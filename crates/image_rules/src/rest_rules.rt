@@ -30,7 +30,7 @@ pub fn idle_fault(words: &[u64]) -> Option<u32>
 }
 
 /// The table slot at the table count, where it isn't null.
-pub fn next_slot_fault(words: &[u64]) -> Option<u32>
+pub(crate) fn next_slot_fault(words: &[u64]) -> Option<u32>
     requires one_or_more { 32768 ≤ length words.now }
     requires tables { Keeps words.now table_count_rule }
     ensures { result ≡ first_failing (next_slot_rule words.now) }

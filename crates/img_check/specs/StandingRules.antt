@@ -1,14 +1,13 @@
 -- The numbered rules of an image at rest, as far as they stand. They are tried in this order.
 use Rattle.std.specs.Prelude.{List, [], ◌∷◌, ◌++◌}
 use Rattle.image_layout.specs.Checks.{Numbered, numbered}
-use Rattle.image_layout.specs.SoundRules.{idle_rule, closed_rule, stamp_rule, given_back_rule, distinct_name_rule, latest_version_rule}
-use Rattle.image_rules.specs.Parts.{next_slot_rule}
+use Rattle.image_layout.specs.SoundRules.{idle_rule, split_log_rule, closed_rule, stamp_rule, given_back_rule, distinct_name_rule, latest_version_rule}
 use Rattle.image_rules.specs.NumberedRules.{entry_rules}
 use Rattle.image_rules.specs.BuiltOwners.{built_owner_rule, built_single_owner_rule, built_owned_rule}
 
--- nothing is half done; of rule 17 the part on the table slot at the table count stands
+-- nothing is half done
 abbrev pub closing_rules : List Numbered
-closing_rules = numbered 16 idle_rule ∷ numbered 17 next_slot_rule ∷ numbered 18 closed_rule ∷ []
+closing_rules = numbered 16 idle_rule ∷ numbered 17 split_log_rule ∷ numbered 18 closed_rule ∷ []
 
 -- The rules that are tried before any for which memory is taken: 1 to 10, 12 and 14 to 18.
 abbrev pub rules_without_memory : List Numbered

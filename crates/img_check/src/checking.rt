@@ -9,7 +9,7 @@ ghost use Rattle.img_check.specs.StandingRules.{closing_rules, content_rules, ow
 use crate::error::CheckError;
 use image_rules::{
     RuleFault, closed_fault, distinct_name_fault, entry_fault, given_back_fault, idle_fault,
-    latest_version_fault, next_slot_fault, owned_fault, owner_fault, single_owner_fault,
+    latest_version_fault, owned_fault, owner_fault, single_owner_fault, split_log_fault,
     stamp_fault,
 };
 use pm_model::NoMemory;
@@ -79,13 +79,14 @@ fn closing_fault(words: &[u64]) -> Option<RuleFault>
     requires one_or_more { 32768 ≤ length words.now }
     requires most { length words.now ≤ 4194304 }
     requires tables { Keeps words.now table_count_rule }
+    requires slots { Keeps words.now table_slot_rule }
     requires objects { Keeps words.now objects_rule }
     ensures { told result ≡ first_fault closing_rules words.now }
 {
     let idle = RuleFault::of(16, idle_fault(words));
-    let slot = RuleFault::of(17, next_slot_fault(words));
+    let log = RuleFault::of(17, split_log_fault(words));
     let closed = RuleFault::of(18, closed_fault(words));
-    idle.or(slot).or(closed)
+    idle.or(log).or(closed)
 }
 
 // Of the rules 19 to 21.

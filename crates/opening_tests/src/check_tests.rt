@@ -53,7 +53,7 @@ fn told_of(alloc: Global, lists: &[&[Change]]) -> Result<Option<Told>, NoMemory>
 
 #[test]
 fn the_first_broken_rule_is_told(rt: HostRuntime) -> Result<(), Fail> {
-    let cases: [(&[Change], Told); 33] = [
+    let cases: [(&[Change], Told); 36] = [
         (&[], None),
         (&[(512, 0)], Some((1, 512))),
         (&[(513, 9)], Some((2, 513))),
@@ -71,6 +71,9 @@ fn the_first_broken_rule_is_told(rt: HostRuntime) -> Result<(), Fail> {
         (&[(696, 1), (697, BLOCK), (698, BLOCK)], Some((16, 696))),
         (&[(576, 1), (577, SLOT), (578, BLOCK)], Some((16, 576))),
         (&[(521, BLOCK)], Some((17, 521))),
+        (&[(2101, 1)], Some((17, 2101))),
+        (&[(2102, 1), (1984, 1)], Some((17, 2102))),
+        (&[(521, BLOCK), (2102, 1)], Some((17, 2102))),
         (&[(1984, 1)], Some((18, 1984))),
         (&[(1985, 1)], Some((18, 1985))),
         (&[(2047, 1)], Some((18, 2047))),

@@ -2,7 +2,7 @@ use Rattle.std.proofs.Common.{◌≡◌, ℕ, ◌<◌, ◌++◌, false, List, le
 use Rattle.std.specs.Prelude.{Option}
 use Rattle.std.specs.Option.{is_some}
 use Rattle.image_layout.specs.Checks.{Keeps, numbered, first_fault}
-use Rattle.image_layout.specs.EntryRules.{magic_rule, table_count_rule, table_slot_rule, arrays_rule, objects_rule}
+use Rattle.image_layout.specs.EntryRules.{magic_rule}
 use Rattle.image_layout.proofs.Faults.{keeps_all}
 use Rattle.image_rules.specs.declared.numbered_rules.RuleFault.{RuleFault}
 use Rattle.image_rules.specs.NumberedRules.{told}

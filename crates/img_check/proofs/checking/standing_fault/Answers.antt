@@ -11,6 +11,10 @@ pub closing_fault-requires-clause-tables : goal.closing_fault-requires-clause-ta
 closing_fault-requires-clause-tables c =
     keeps_all entry_rules c.args.words.now (told-none entry_rules c.args.words.now c.entry_fault-entry.result c.entry_fault-entry.ensures (sym c.is_some.ensures ∙ c.if-is_some.false)) 3 (numbered 0 magic_rule) (omega arith)
 
+pub closing_fault-requires-clause-slots : goal.closing_fault-requires-clause-slots
+closing_fault-requires-clause-slots c =
+    keeps_all entry_rules c.args.words.now (told-none entry_rules c.args.words.now c.entry_fault-entry.result c.entry_fault-entry.ensures (sym c.is_some.ensures ∙ c.if-is_some.false)) 8 (numbered 0 magic_rule) (omega arith)
+
 pub closing_fault-requires-clause-objects : goal.closing_fault-requires-clause-objects
 closing_fault-requires-clause-objects c =
     keeps_all entry_rules c.args.words.now (told-none entry_rules c.args.words.now c.entry_fault-entry.result c.entry_fault-entry.ensures (sym c.is_some.ensures ∙ c.if-is_some.false)) 11 (numbered 0 magic_rule) (omega arith)

@@ -1,0 +1,5 @@
+use Rattle.image_rules.proofs.SplitChecks.{ColumnsBelow}
+use Rattle.image_rules.proofs.split_rules.table_log_fault.Given as goal
+
+abbrev pub invariant-loop-number : goal.invariant-loop-number
+invariant-loop-number l = ColumnsBelow l.words l.block.0 l.number
