@@ -1,5 +1,6 @@
 // Laws whose premises are met over a formatted image, or over one that is written out, each the contract of a function that does nothing.
 ghost use Rattle.std.specs.Prelude.{◌≡◌, ℕ, ◌<◌, Contains, Some, [], ◌∷◌, List};
+ghost use Rattle.image_layout.specs.declared.layout.TheConstants.{OBJECTS};
 ghost use Rattle.image_layout.specs.Fresh.{fresh_words};
 ghost use Rattle.image_layout.specs.Owners.{lane_targets};
 ghost use Rattle.image_layout.specs.SoundRules.{IsIntact, IsSound, fault};
@@ -14,6 +15,7 @@ ghost use Rattle.txn_object.specs.declared.entry.Entry.{Entry};
 ghost use Rattle.txn_object.specs.Changes.{begun, with_entry, no_transaction};
 ghost use Rattle.txn_object.specs.Changes.{ClearsAll, ClearsCommit, IsBeginBefore, IsEntryBefore, IsSpelt};
 ghost use Rattle.txn_object.specs.Shown.{MayAddEntry, Shows};
+ghost use Rattle.txn_object.specs.Calls.{MayPlanExtension};
 ghost use Rattle.shown_state.specs.CommitLaws.{two_commit_image};
 ghost use Rattle.shown_state.specs.Fits.{BeginFirst};
 ghost use Rattle.shown_state.specs.LogicalState.{logical_state};
@@ -76,7 +78,7 @@ pub fn consistency_law()
 /// version 1, which shows a table with a row, breaks none but that of the version, and what version 2 reads beside it is
 /// 0. So what the laws of opening's step to version 2 ask is met. In the first a lane may allocate one more extension,
 /// into the pointer in the last one; and each array of its table, that of its rows' creators among them, may be planned
-/// to grow.
+/// to grow, and each transaction object to be extended.
 pub fn written_images_law()
     ensures sound { IsSound two_commit_image }
     ensures shown { OneRowIsShown }
@@ -87,4 +89,6 @@ pub fn written_images_law()
         IsTableArray two_commit_image 0 0 header }
     ensures grows { (index : HeapIndex) → IsIndexOf two_commit_image index →
         MayPlanGrowth two_commit_image index 0 2064 }
+    ensures extends { (index : HeapIndex) (object : ℕ) → object < OBJECTS → IsIndexOf two_commit_image index →
+        MayPlanExtension two_commit_image index object }
 {}
