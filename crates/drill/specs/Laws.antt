@@ -74,9 +74,10 @@ WaitsFor sessions session [] last = session ≡ last
 WaitsFor sessions session (holder ∷ holders) last =
     (standing_of sessions session ≡ Blocked holder) × WaitsFor sessions holder holders last
 
--- The move is what the turn of the picked session asks for. The session that goes first starts its next statement, if it
--- has no call in flight. Else the running session at the end of its holders steps; and the answer is `Stuck` only where
--- its holders, however far they are followed, lead to no running one. The run is over only where every session is done.
+-- The move is what the turn of the picked session asks for. The session that goes first starts its next statement, if
+-- it has no call in flight. Else the running session at the end of its holders steps; and the answer is `Stuck` only
+-- where its holders, however far they are followed, lead to no running one. The run is over only where every session is
+-- done.
 abbrev pub Fits : List Standing → ℕ → Move → Type 0
 Fits sessions picked (Start session) =
     GoesFirst sessions picked session × (standing_of sessions session ≡ Ready)

@@ -13,14 +13,14 @@ pub fn statements_follow()
     ensures { EachFollows }
 {}
 
-/// What is done at a turn fits how the sessions stand: it is done for the first session upwards from the picked one that
-/// is not done, and the run is over only where every session is.
+/// What is done at a turn fits how the sessions stand: it is done for the first session upwards from the picked one
+/// that is not done, and the run is over only where every session is.
 pub fn moves_fit()
     ensures { MovesFit }
 {}
 
-/// Where no sessions wait in a circle, and the session that goes first has a call in flight, the move is a step: that of
-/// the running session at the end of its holders.
+/// Where no sessions wait in a circle, and the session that goes first has a call in flight, the move is a step: that
+/// of the running session at the end of its holders.
 pub fn waits_end()
     ensures { WaitsEnd }
 {}

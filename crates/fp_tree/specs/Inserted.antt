@@ -29,9 +29,10 @@ pub record IsPlaceFor (words : List ℕ) (column : ℕ) (probe : Probe) (key lea
   pub may : (code : ℕ) → MayInsert words column before after
       (record { leaf = leaf; slot = slot; key = key; code = code; lead = None })
 
--- Behind the old actions the new ones have exactly the change that is the insertion of this key and code at their place,
--- with this lead. It may be made.
-pub record IsInserted (words : List ℕ) (column : ℕ) (lead : Option Lead) (probe : Probe) (key code : ℕ) (old new : List Action) : Type 0 where
+-- Behind the old actions the new ones have exactly the change that is the insertion of this key and code at their
+-- place, with this lead. It may be made.
+pub record IsInserted (words : List ℕ) (column : ℕ) (lead : Option Lead) (probe : Probe) (key code : ℕ)
+    (old new : List Action) : Type 0 where
   pub pair : Insertion
   pub key_is : pair.key ≡ key
   pub code_is : pair.code ≡ code

@@ -49,8 +49,8 @@ pub record GoesOn (words : List ℕ) (index : HeapIndex) (lane : ℕ) (tree : Tr
   pub stands : Stands words tree
   pub may : MayPlanLeaf words index lane tree.column
 
--- A first leaf is planned: these actions, and it stands where the heap chooses. Once they were played, the tree goes on,
--- and has room for any key.
+-- A first leaf is planned: these actions, and it stands where the heap chooses. Once they were played, the tree goes
+-- on, and has room for any key.
 pub record IsFirstPlanned (words : List ℕ) (old new : HeapIndex) (lane : ℕ) (tree after : TreeState)
     (plan : List Action) : Type 0 where
   pub choice : Choice

@@ -55,8 +55,8 @@ pub record IsSoundLeaf (words : List ℕ) (leaf : ℕ) : Type 0 where
   pub codes : (slot : ℕ) → slot < 48 → bit_at (slice_index words leaf) slot ≡ 1
       → slice_index words (code_at leaf slot) < 2 ^ 32
 
--- The words have the tree of a column of integers, with no split at work. Its leaves are in the order of their keys, and
--- each has the fingerprints of its keys.
+-- The words have the tree of a column of integers, with no split at work. Its leaves are in the order of their keys,
+-- and each has the fingerprints of its keys.
 pub record IsSoundTree (words : List ℕ) (column : ℕ) (leaves : List ℕ) : Type 0 where
   pub tree_is : IsTree words column leaves
   pub quiet : HasNoSplit words column

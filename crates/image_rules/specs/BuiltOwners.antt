@@ -1,6 +1,6 @@
--- The owner words of the parts of an image that are built: tables, arrays, the leaves of trees and transaction objects. The
--- texts of dictionaries join them with dictionaries. Where each column's tree is empty, these are all the owner words of
--- the image, and the three rules here are those of the image.
+-- The owner words of the parts of an image that are built: tables, arrays, the leaves of trees and transaction objects.
+-- The texts of dictionaries join them with dictionaries. Where each column's tree is empty, these are all the owner
+-- words of the image, and the three rules here are those of the image.
 use Rattle.std.specs.Prelude.{◌≡◌, ℕ, zero, suc, ◌+◌, ◌-◌, ◌*◌, ◌/◌, Bool, ◌&&◌, ◌==◌, nat_lt, if◌then◌else◌, List, [], ◌∷◌, ◌++◌, length, map, filter, Contains, slice_index}
 use Rattle.std.specs.List.{flat_map}
 use Rattle.std.specs.Int.{bit_at}
@@ -17,13 +17,15 @@ use Rattle.image_layout.specs.EntryRules.{is_among}
 use Rattle.image_layout.specs.SoundRules.{distinct_checks}
 use Rattle.image_rules.specs.declared.owner_words.OwnerWord.{OwnerWord}
 
--- The places of the pointers to leaves, from one of them on, at most so many. A null pointer isn't one, and none follows
--- one that doesn't name the words of a leaf's block.
+-- The places of the pointers to leaves, from one of them on, at most so many. A null pointer isn't one, and none
+-- follows one that doesn't name the words of a leaf's block.
 unfoldable pub links_from : List ℕ → ℕ → ℕ → List ℕ
 links_from words zero at = []
 links_from words (suc steps) at =
     (if slice_index words at == 0 then []
-    else at ∷ (if is_pointer_to words 128 (slice_index words at) then links_from words steps (next_leaf_at (place_in (slice_index words at))) else []))
+    else at
+    ∷ (if is_pointer_to words 128 (slice_index words at)
+    then links_from words steps (next_leaf_at (place_in (slice_index words at))) else []))
 
 -- those of a column's tree
 abbrev pub leaf_links : List ℕ → ℕ → List ℕ
@@ -31,7 +33,8 @@ leaf_links words column = links_from words (length words) (first_leaf_at column)
 
 abbrev pub built_column_owners : List ℕ → ℕ → List Owner
 built_column_owners words column =
-    array_owners words (codes_header column) ++ array_owners words (dictionary_header column) ++ map leaf_owner (leaf_links words column)
+    array_owners words (codes_header column) ++ array_owners words (dictionary_header column)
+    ++ map leaf_owner (leaf_links words column)
 
 abbrev pub built_block_owners : List ℕ → ℕ → List Owner
 built_block_owners words block =
@@ -44,7 +47,8 @@ built_table_owners words table = table_owner words table ∷ built_block_owners 
 
 -- all of them, in the order of the walk: table by table, then object by object
 unfoldable pub built_owner_words : List ℕ → List Owner
-built_owner_words words = flat_map (built_table_owners words) (below (table_count words)) ++ flat_map (object_owners words) (below 16)
+built_owner_words words =
+    flat_map (built_table_owners words) (below (table_count words)) ++ flat_map (object_owners words) (below 16)
 
 -- 19: each owner word names the first word of a live block of the kind and size that its owner needs
 unfoldable pub built_owner_rule : Rule
@@ -66,9 +70,11 @@ built_owned_rule words = map (owned_check (map (word_of words) (built_owner_word
 abbrev pub is_slot_block : ℕ → ℕ → ℕ → ℕ → Bool
 is_slot_block bitmap class offset count =
     let slot = (offset - 8) / slot_words class in
-    (slot_words class == count) && nat_lt slot (slots_of class) && (8 + slot * slot_words class == offset) && (bit_at bitmap slot == 1)
+    (slot_words class == count) && nat_lt slot (slots_of class) && (8 + slot * slot_words class == offset)
+    && (bit_at bitmap slot == 1)
 
--- a page with this descriptor is the head of a big block of so many words, and the offset in the page is where it begins
+-- a page with this descriptor is the head of a big block of so many words, and the offset in the page is where it
+-- begins
 abbrev pub is_head_block : ℕ → ℕ → ℕ → Bool
 is_head_block descriptor offset count = says_big descriptor && (offset == 0) && (512 * (descriptor - 16) == count)
 
@@ -82,7 +88,9 @@ kept_check held block = check block.first (contains nat_cmp held (pointer_word b
 
 -- the live blocks of a small page of a class, by its bitmap
 abbrev pub slot_blocks : ℕ → ℕ → ℕ → List Block
-slot_blocks page class bitmap = map (λ slot. record { first = slot_at page class slot; words = slot_words class }) (filter (λ slot. bit_at bitmap slot == 1) (below (slots_of class)))
+slot_blocks page class bitmap =
+    map (λ slot. record { first = slot_at page class slot; words = slot_words class })
+    (filter (λ slot. bit_at bitmap slot == 1) (below (slots_of class)))
 
 -- no column has a leaf
 pub record HasEmptyTrees (words : List ℕ) : Type 0 where

@@ -15,8 +15,10 @@ use Rattle.image_layout.specs.Owners.{next_table_slots}
 -- the pointers to the first segments of an object, so many of them, and the one after them
 abbrev pub segment_checks : List ℕ → ℕ → ℕ → List Check
 segment_checks words object ready =
-    map (λ segment. check (segment_pointer_at words object segment) (is_segment_pointer words object segment)) (below ready)
-    ++ check (segment_pointer_at words object ready) (is_null_or_pointer_to words 256 (slice_index words (segment_pointer_at words object ready))) ∷ []
+    map (λ segment. check (segment_pointer_at words object segment) (is_segment_pointer words object segment))
+    (below ready)
+    ++ check (segment_pointer_at words object ready)
+    (is_null_or_pointer_to words 256 (slice_index words (segment_pointer_at words object ready))) ∷ []
 
 -- the pointers to the first extensions of a table, so many of them, and the one after them
 abbrev pub pointer_checks : List ℕ → ℕ → ℕ → List Check
@@ -53,7 +55,8 @@ kind_name_checks words column = kind_check words column ∷ name_checks words (c
 -- a table's name, and the kinds and names of its columns
 abbrev pub table_name_checks : List ℕ → ℕ → List Check
 table_name_checks words block =
-    name_checks words (table_name_at block) ++ flat_map (column_name_checks words block) (below (column_count words block))
+    name_checks words (table_name_at block)
+    ++ flat_map (column_name_checks words block) (below (column_count words block))
 
 -- 17, of a column: no leaf is being split, and none is being added
 abbrev pub log_checks : List ℕ → ℕ → List Check

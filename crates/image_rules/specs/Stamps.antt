@@ -8,7 +8,8 @@ use Rattle.image_layout.specs.SoundRules.{is_created, is_ended}
 -- where a chunk of an array begins, if it is published
 abbrev pub chunk_place : List ℕ → ℕ → ℕ → Option ℕ
 chunk_place words header chunk =
-    (if nat_lt chunk (chunk_count words header) then Some (place_in (slice_index words (chunk_pointer_at header chunk))) else None)
+    (if nat_lt chunk (chunk_count words header)
+    then Some (place_in (slice_index words (chunk_pointer_at header chunk))) else None)
 
 -- the stamp at a place, and 0 where none is published
 abbrev pub stamp_of : List ℕ → Option ℕ → ℕ

@@ -45,7 +45,8 @@ fn is_table_name(words: &[u64], count: u8, name: Place) -> bool
     requires published { count ≤ tables.table_count words.now }
     requires count { count ≤ 32 }
     requires within { name.0 + 3 ≤ length words.now }
-    ensures { result ≡ list_any (names_are_one words.now name.0) (before_of (λ table. table_name_at (tables.table_block words.now table)) count) }
+    ensures { result ≡ list_any (names_are_one words.now name.0)
+        (before_of (λ table. table_name_at (tables.table_block words.now table)) count) }
 {
     for table in 0..count {
         if same_name(words, name, table_name(table_block(words, table))) {
@@ -59,7 +60,8 @@ fn is_table_name(words: &[u64], count: u8, name: Place) -> bool
 fn column_repeat(words: &[u64], block: Place) -> Option<u32>
     requires most { length words.now ≤ 4194304 }
     requires block { IsTableBlock words.now block.0 }
-    ensures { result ≡ first_failing (name_place_checks words.now [] (map column_name_at (tables.columns_of words.now block.0))) }
+    ensures { result ≡ first_failing
+        (name_place_checks words.now [] (map column_name_at (tables.columns_of words.now block.0))) }
 {
     for number in 0..columns_of(words, block) {
         let name = column_name(column_record(words, block, number));
@@ -76,7 +78,8 @@ fn is_column_name(words: &[u64], block: Place, count: u8, name: Place) -> bool
     requires block { IsTableBlock words.now block.0 }
     requires count { count ≤ tables.column_count words.now block.0 }
     requires within { name.0 + 3 ≤ length words.now }
-    ensures { result ≡ list_any (names_are_one words.now name.0) (before_of (λ number. column_name_at (tables.column_record words.now block.0 number)) count) }
+    ensures { result ≡ list_any (names_are_one words.now name.0)
+        (before_of (λ number. column_name_at (tables.column_record words.now block.0 number)) count) }
 {
     for number in 0..count {
         if same_name(

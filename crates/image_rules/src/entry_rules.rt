@@ -20,8 +20,8 @@ const CREATED: u64 = 1;
 
 const ENDED: u64 = 2;
 
-/// The first entry word of an open transaction object that is neither 0 nor an entry of a published table and a row with
-/// stamps, or that follows a 0.
+/// The first entry word of an open transaction object that is neither 0 nor an entry of a published table and a row
+/// with stamps, or that follows a 0.
 pub fn entries_fault(words: &[u64]) -> Option<u32>
     requires segments { length words.now % 32768 ≡ 0 }
     requires one_or_more { 32768 ≤ length words.now }

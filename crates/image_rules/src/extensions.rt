@@ -51,12 +51,13 @@ pub(crate) fn columns_in_block(words: &[u64], block: Place) -> u8
     inner_count(words, block) as u8
 }
 
-/// Whether the word of a column that says from which row on it has words is tried: in version 2, that of a column of the
-/// table's block.
+/// Whether the word of a column that says from which row on it has words is tried: in version 2, that of a column of
+/// the table's block.
 pub(crate) fn is_inner(words: &[u64], block: Place, number: u8) -> bool
     requires most { length words.now ≤ 4194304 }
     requires block { IsTableBlock words.now block.0 }
-    ensures { result ≡ (not (tables.is_first_version words.now) && nat_lt number (tables.inner_columns words.now block.0)) }
+    ensures { result ≡ (not (tables.is_first_version words.now)
+        && nat_lt number (tables.inner_columns words.now block.0)) }
 {
     !is_first_version(words) && number < columns_in_block(words, block)
 }

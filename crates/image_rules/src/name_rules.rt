@@ -19,9 +19,10 @@ const TEXTS: u64 = 2;
 // The bytes of a word.
 const WORD_BYTES: u32 = 8;
 
-/// The first word that breaks the rule of names and kinds: a column's kind that is neither 1 nor 2, or the word with the
-/// first byte by which a name isn't one that is padded with zero bytes, or in version 2 the word `since` of a column of the
-/// table's block that isn't 0. Table by table, the table's name, and then of each column its kind, its name and that word.
+/// The first word that breaks the rule of names and kinds: a column's kind that is neither 1 nor 2, or the word with
+/// the first byte by which a name isn't one that is padded with zero bytes, or in version 2 the word `since` of a
+/// column of the table's block that isn't 0. Table by table, the table's name, and then of each column its kind, its
+/// name and that word.
 pub fn name_fault(words: &[u64]) -> Option<u32>
     requires segments { length words.now % 32768 ≡ 0 }
     requires one_or_more { 32768 ≤ length words.now }
@@ -71,8 +72,8 @@ fn column_name_fault(words: &[u64], block: Place, number: u8) -> Option<u32>
     since_fault(words, block, number, column)
 }
 
-// The place of the word that says from which row on a column has words, where it isn't 0 though the column stands in its
-// table's block in version 2.
+// The place of the word that says from which row on a column has words, where it isn't 0 though the column stands in
+// its table's block in version 2.
 fn since_fault(words: &[u64], block: Place, number: u8, column: Place) -> Option<u32>
     requires most { length words.now ≤ 4194304 }
     requires block { IsTableBlock words.now block.0 }

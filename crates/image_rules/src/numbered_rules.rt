@@ -34,8 +34,8 @@ impl RuleFault {
     }
 }
 
-/// The first of the rules of every image that a power cut can leave that the words break: 1 to 10, 12, 14 and 15, tried in
-/// the order of their numbers. A few passes over the descriptors, the tables and the objects.
+/// The first of the rules of every image that a power cut can leave that the words break: 1 to 10, 12, 14 and 15, tried
+/// in the order of their numbers. A few passes over the descriptors, the tables and the objects.
 pub fn entry_fault(words: &[u64]) -> Option<RuleFault>
     requires segments { length words.now % 32768 ≡ 0 }
     requires one_or_more { 32768 ≤ length words.now }

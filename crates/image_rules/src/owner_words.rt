@@ -57,7 +57,8 @@ fn push_table_owners(owners: &mut Vec<OwnerWord>, words: &[u64], table: u8) -> R
     requires one_or_more { 32768 ≤ length words.now }
     requires most { length words.now ≤ 4194304 }
     requires slots { Keeps words.now table_slot_rule }
-    ensures { IfOk result (λ _. owners.new.items ≡ owners.old.items ++ map (as_read words.now) (built_table_owners words.now table)) }
+    ensures { IfOk result
+        (λ _. owners.new.items ≡ owners.old.items ++ map (as_read words.now) (built_table_owners words.now table)) }
 {
     let block = table_block(words, table);
     let inner = columns_in_block(words, block);
@@ -79,7 +80,8 @@ fn push_extension_owners(
 ) -> Result<(), NoMemory>
     requires most { length words.now ≤ 4194304 }
     requires block { IsTableBlock words.now block.0 }
-    ensures { IfOk result (λ _. owners.new.items ≡ owners.old.items ++ map (as_read words.now) (extension_owners words.now block.0)) }
+    ensures { IfOk result
+        (λ _. owners.new.items ≡ owners.old.items ++ map (as_read words.now) (extension_owners words.now block.0)) }
 {
     if is_first_version(words) {
         return Ok(());
@@ -100,7 +102,8 @@ fn push_column_owners(
     requires segments { length words.now % 32768 ≡ 0 }
     requires most { length words.now ≤ 4194304 }
     requires within { column.0 + 40 ≤ length words.now }
-    ensures { IfOk result (λ _. owners.new.items ≡ owners.old.items ++ map (as_read words.now) (built_column_owners words.now column.0)) }
+    ensures { IfOk result
+        (λ _. owners.new.items ≡ owners.old.items ++ map (as_read words.now) (built_column_owners words.now column.0)) }
 {
     push_array_owners(owners, words, codes_header(column))?;
     push_array_owners(owners, words, dictionary_header(column))?;
@@ -116,7 +119,9 @@ fn push_leaf_owners(
     requires segments { length words.now % 32768 ≡ 0 }
     requires most { length words.now ≤ 4194304 }
     requires within { column.0 + 40 ≤ length words.now }
-    ensures { IfOk result (λ _. owners.new.items ≡ owners.old.items ++ map (as_read words.now) (map leaf_owner (leaf_links words.now column.0))) }
+    ensures { IfOk result
+        (λ _. owners.new.items
+        ≡ owners.old.items ++ map (as_read words.now) (map leaf_owner (leaf_links words.now column.0))) }
 {
     let mut pointer = first_leaf(column);
     for step in 0..words.len() {
@@ -141,7 +146,8 @@ fn push_array_owners(
 ) -> Result<(), NoMemory>
     requires most { length words.now ≤ 4194304 }
     requires within { header.0 + 16 ≤ length words.now }
-    ensures { IfOk result (λ _. owners.new.items ≡ owners.old.items ++ map (as_read words.now) (array_owners words.now header.0)) }
+    ensures { IfOk result
+        (λ _. owners.new.items ≡ owners.old.items ++ map (as_read words.now) (array_owners words.now header.0)) }
 {
     let count = words[header.0 as usize].min(u64::from(MAX_CHUNKS)) as u32;
     for chunk in 0..(count + 1).min(MAX_CHUNKS) {
@@ -162,7 +168,8 @@ fn push_object_owners(
     requires one_or_more { 32768 ≤ length words.now }
     requires most { length words.now ≤ 4194304 }
     requires rule { Keeps words.now objects_rule }
-    ensures { IfOk result (λ _. owners.new.items ≡ owners.old.items ++ map (as_read words.now) (object_owners words.now object)) }
+    ensures { IfOk result
+        (λ _. owners.new.items ≡ owners.old.items ++ map (as_read words.now) (object_owners words.now object)) }
 {
     let mut pointer = segment_pointer(object);
     for number in 0..ready_count(words, object) {
@@ -182,7 +189,9 @@ fn push_if_named(
     requires within { place.0 < length words.now }
     requires some { 1 ≤ count }
     requires most { count ≤ 32768 }
-    ensures { IfOk result (λ _. owners.new.items ≡ owners.old.items ++ map (as_read words.now) (filter (names_one words.now) (owner_of place.0 count ∷ []))) }
+    ensures { IfOk result
+        (λ _. owners.new.items
+        ≡ owners.old.items ++ map (as_read words.now) (filter (names_one words.now) (owner_of place.0 count ∷ []))) }
 {
     if words[place.0 as usize] == 0 {
         return Ok(());
@@ -199,7 +208,8 @@ fn push_owner(
     requires within { place.0 < length words.now }
     requires some { 1 ≤ count }
     requires most { count ≤ 32768 }
-    ensures { IfOk result (λ _. owners.new.items ≡ owners.old.items ++ as_read words.now (owner_of place.0 count) ∷ []) }
+    ensures { IfOk result
+        (λ _. owners.new.items ≡ owners.old.items ++ as_read words.now (owner_of place.0 count) ∷ []) }
 {
     owners.push(OwnerWord {
         place: place.0,

@@ -20,8 +20,8 @@ use pm_model::{
 };
 
 /// The first word that breaks the rule of stamps: a table's bound on its rows with stamps, where an array of stamps has
-/// fewer rows or a column begins above it, or a stamp, row by row, that of the row's creation before that of its end. Time as for the rows of each table's two
-/// arrays of stamps.
+/// fewer rows or a column begins above it, or a stamp, row by row, that of the row's creation before that of its end.
+/// Time as for the rows of each table's two arrays of stamps.
 pub fn stamp_fault(words: &[u64]) -> Option<u32>
     requires segments { length words.now % 32768 ≡ 0 }
     requires one_or_more { 32768 ≤ length words.now }
@@ -94,7 +94,8 @@ fn chunk_stamp_fault(words: &[u64], block: Place, chunk: u32) -> Option<u32>
     requires arrays { Keeps words.now (table_arrays_rule block.0) }
     requires bounded { slice_index words.now (high_at block.0) ≤ capacity_at words.now (created_at block.0) }
     requires chunk { chunk < 12 }
-    ensures { result ≡ first_failing (flat_map (row_checks words.now block.0) (range_with_len (capacity_of chunk) (words_of_chunk chunk))) }
+    ensures { result ≡ first_failing
+        (flat_map (row_checks words.now block.0) (range_with_len (capacity_of chunk) (words_of_chunk chunk))) }
 {
     let created = published_chunk(words, created_header(block), chunk);
     let ended = published_chunk(words, ended_header(block), chunk);

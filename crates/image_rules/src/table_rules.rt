@@ -21,9 +21,9 @@ pub fn table_count_fault(words: &[u64]) -> Option<u32>
 }
 
 /// The first word that breaks the rule of table slots: a slot below the table count that names no table, the one at the
-/// count that is neither null nor a block's pointer, or one above it that isn't null; and in version 2, behind the slot of a
-/// table, a pointer to one of its extensions that names none or one that was reached before, or the one after them, where
-/// it isn't null and names none.
+/// count that is neither null nor a block's pointer, or one above it that isn't null; and in version 2, behind the slot
+/// of a table, a pointer to one of its extensions that names none or one that was reached before, or the one after
+/// them, where it isn't null and names none.
 pub fn table_slot_fault(words: &[u64]) -> Option<u32>
     requires segments { length words.now % 32768 ≡ 0 }
     requires one_or_more { 32768 ≤ length words.now }

@@ -20,7 +20,8 @@ owner_rules = numbered 19 built_owner_rule ∷ numbered 20 built_single_owner_ru
 -- stamps, pages that were given back, names, and the version
 abbrev pub content_rules : List Numbered
 content_rules =
-    numbered 27 stamp_rule ∷ numbered 29 given_back_rule ∷ numbered 30 distinct_name_rule ∷ numbered 31 latest_version_rule ∷ []
+    numbered 27 stamp_rule ∷ numbered 29 given_back_rule ∷ numbered 30 distinct_name_rule
+    ∷ numbered 31 latest_version_rule ∷ []
 
 abbrev pub sound_rules : List Numbered
 sound_rules = rules_without_memory ++ owner_rules ++ content_rules

@@ -67,8 +67,8 @@ pub record IsRun (words : List ℕ) (script : List Line) (played : ℕ) (m : Mom
   pub wanting : AreWantingWhere (logical_state m.opened) m.history
   -- a commit is due until the fence that makes it certain was played; each other call that is decided is in the history
   pub due_is : IsDueAt (logical_state m.opened) m.history m.due m.to_play
-  -- of the actions of the plans of these calls, one plan after the other, the first `played` were played: they have made
-  -- the device of the opened words
+  -- of the actions of the plans of these calls, one plan after the other, the first `played` were played: they have
+  -- made the device of the opened words
   pub counted : played + m.to_play ≡ length (planned m)
   pub device : m.device ≡ run 1 (take played (planned m)) (at_rest m.opened)
   -- whatever image a power cut leaves now, opening it gives the commits whose commit word is durable

@@ -163,8 +163,8 @@ fn format_and_write<J: Sink>(alloc: Global, segments: u32, image_out: &mut J) ->
 }
 
 /// Does the job of the words. `format` writes the image of a formatted device. `script` opens the image that it reads
-/// from `image`, runs the script that it reads from `input`, one statement after the other, and writes the image that it
-/// leaves to `image_out` and the printed history to `out`; with a cut it stops at the first moment at which so many
+/// from `image`, runs the script that it reads from `input`, one statement after the other, and writes the image that
+/// it leaves to `image_out` and the printed history to `out`; with a cut it stops at the first moment at which so many
 /// actions were played and a statement has no reply.
 ///
 /// The work is done in this order, and of several causes the first one is answered: the words are read; the image; the
