@@ -85,7 +85,8 @@ pub(crate) fn place_commit(
 )
     requires room { pending flight.old + vec_len history.old ≤ vec_capacity history.old }
     requires small { pending flight.old + vec_len history.old < 2 ^ 32 }
-    ensures placed { IsPlacedAt left flight.old flight.new transactions.old transactions.new history.old.items history.new.items }
+    ensures placed { IsPlacedAt left flight.old flight.new transactions.old transactions.new history.old.items
+        history.new.items }
     ensures capacity { vec_capacity history.new ≡ vec_capacity history.old }
 {
     if let Flight::Committing { number, late } = flight {

@@ -77,9 +77,9 @@ pub fn consistency_law()
 
 /// Images that are written out keep the rules: that of two commits and two columns in extensions is sound; and that of
 /// version 1, which shows a table with a row, breaks none but that of the version, and what version 2 reads beside it
-/// is 0. So what the laws of opening's step to version 2 ask is met. In the first a lane may allocate one more extension,
-/// into the pointer in the last one; and each array of its table, that of its rows' creators among them, may be planned
-/// to grow, and each transaction object to be extended.
+/// is 0. So what the laws of opening's step to version 2 ask is met. In the first a lane may allocate one more
+/// extension, into the pointer in the last one; and each array of its table, that of its rows' creators among them, may
+/// be planned to grow, and each transaction object to be extended.
 pub fn written_images_law()
     ensures sound { IsSound two_commit_image }
     ensures shown { OneRowIsShown }
