@@ -21,7 +21,7 @@ use std::alloc::Global;
 /// and stand below their table's bound, above which no column begins (27), that pages which were given back are 0 (29),
 /// that names differ (30) and that the version is 2 (31). An error names the first rule that the words break, and the
 /// place where they do. It makes a few passes over the words, and n log n steps for n owner words, for which it takes
-/// memory: where that is refused, the words keep the rules before them, 1 to 18.
+/// memory: where that is refused, the words keep those of them before 19: 1 to 10, 12 and 14 to 18.
 pub fn check(alloc: Global, words: &[u64]) -> Result<(), CheckError>
     requires segments { length words.now % 32768 ≡ 0 }
     requires one_or_more { 32768 ≤ length words.now }

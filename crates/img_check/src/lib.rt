@@ -3,8 +3,8 @@
 //! Layer: what an image shows, and how it opens, above `image_rules`. It reads words and changes none. Tests and
 //! measurements call it, and no command does yet.
 //!
-//! - `check` tries the numbered rules of an image at rest, in their order. A yes means that each is kept; a no names
-//!   the first that is broken, and the first place at which it is.
+//! - `check` tries the numbered rules of an image at rest that stand, in their order. A yes means that each is kept; a
+//!   no names the first that is broken, and the first place at which it is.
 //!
 //! State: none.
 //!

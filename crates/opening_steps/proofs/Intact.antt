@@ -17,6 +17,7 @@ use Rattle.shown_state.specs.OpeningParts.{IsImage, StepKeeps}
 use Rattle.shown_state.specs.StepLaws.{AreClear, AreMended, NoneHasEntries, NoneIsOpen, NoneIsSplit, NoneIsUndecided, NoTableIsNew, NoTextIsNew}
 use Rattle.shown_state.proofs.Opening.{lane_is_idle, last_is, log_is_empty, not_open, object_is_closed, slot_is_null}
 use Rattle.shown_state.proofs.Sounds.{intact_fits, slot_zero}
+use Rattle.opening_steps.specs.QuietImages.{IsQuiet}
 use Rattle.opening_steps.proofs.OwnerPlaces.{Contains-take}
 use Rattle.opening_steps.proofs.VersionStep.{version_keeps}
 
@@ -64,3 +65,11 @@ module _ (words : List ℕ) (intact : IsIntact words) where
 
 pub intact_keeps : (words : List ℕ) → IsImage words → IsIntact words → BeginFirst words → StepKeeps AreMended version_mending words
 intact_keeps words image intact first = version_keeps words image (intact_fits words image intact first) (intact_is_clear words intact)
+
+-- such an image is quiet
+pub intact_quiet : (words : List ℕ) → IsImage words → IsIntact words → BeginFirst words → IsQuiet words
+intact_quiet words image intact first = record {
+  image = image;
+  fits = intact_fits words image intact first;
+  quiet = (none_split words intact, no_table words intact, no_text words intact);
+}

@@ -8,7 +8,7 @@ use Rattle.shown_state.specs.StepLaws.{HaveNoNew, NoneIsSplit, NoTableIsNew, NoT
 abbrev pub NothingIsNew : List ℕ → Type 0
 NothingIsNew words = NoneIsSplit 512 words × NoTableIsNew words × NoTextIsNew 512 words
 
--- such an image, which fits together; its lanes and its transactions may be in any state
+-- such an image, which fits together; its lanes and its transactions may be in any state that fits
 pub record IsQuiet (words : List ℕ) : Type 0 where
   pub image : IsImage words
   pub fits : Fits words
