@@ -1,6 +1,7 @@
 // The soundness check, on images in which words were changed.
 use crate::ground::{
-    BLOCK, Change, EXTENSION, EXTENSIONS, FIRST_VERSION, LAST_PAGE, PAGE_5, SLOT, TABLE, image,
+    BLOCK, Change, EXTENSION, EXTENSIONS, FIRST_VERSION, LAST_PAGE, PAGE_5, PAGE_9, SLOT, TABLE,
+    TWO_COMMITS, VALUE, image,
 };
 use img_check::{CheckError, check};
 use pm_model::NoMemory;
@@ -36,19 +37,23 @@ const SECOND_ENDED: [Change; 3] = [(10, 18), (2080, 2), (2082, PAGE_5 + 2560)];
 const SECOND_CODES: [Change; 3] = [(12, 18), (2104, 2), (2106, PAGE_5 + 3584)];
 
 // Whether the rules are kept, and else the first that isn't and the place.
-type Told = Option<(u8, u32)>;
+pub(crate) type Told = Option<(u8, u32)>;
 
-// What the check tells of a formatted image of one segment in which words were changed, list by list.
-fn told_of(alloc: Global, lists: &[&[Change]]) -> Result<Option<Told>, NoMemory> {
-    let words = image(alloc, lists)?;
+// What the check tells of an image. `None` where it hasn't one segment, and where memory runs out.
+pub(crate) fn told(alloc: Global, words: &[u64]) -> Option<Told> {
     if words.len() != 32768 {
-        return Ok(None);
+        return None;
     }
-    match check(alloc, &words) {
-        Ok(()) => Ok(Some(None)),
-        Err(CheckError::Unsound { rule, place }) => Ok(Some(Some((rule, place)))),
-        Err(CheckError::NoMemory) => Ok(None),
+    match check(alloc, words) {
+        Ok(()) => Some(None),
+        Err(CheckError::Unsound { rule, place }) => Some(Some((rule, place))),
+        Err(CheckError::NoMemory) => None,
     }
+}
+
+// What it tells of a formatted image of one segment in which words were changed, list by list.
+fn told_of(alloc: Global, lists: &[&[Change]]) -> Result<Option<Told>, NoMemory> {
+    Ok(told(alloc, &image(alloc, lists)?))
 }
 
 #[test]
@@ -208,6 +213,31 @@ fn columns_in_extensions_are_tried(rt: HostRuntime) -> Result<(), Fail> {
     Ok(())
 }
 
+// The image whose state is told is sound, and each of its parts is tried.
+#[test]
+fn the_image_of_two_commits_is_sound(rt: HostRuntime) -> Result<(), Fail> {
+    let cases: [(&[Change], Told); 10] = [
+        (&[], None),
+        // No column begins above the bound.
+        (&[(4695, 3)], Some((27, 2057))),
+        (&[(4631, 3)], Some((27, 2057))),
+        (&[(2057, 1)], Some((27, 2057))),
+        // An extension is reached once, and its column's chunks and leaves are owned, by it alone.
+        (&[(4616, PAGE_9 + 8)], Some((9, 4616))),
+        (&[(4632, 0), (4633, 0)], Some((21, 5120))),
+        (&[(4628, 0)], Some((21, 2312))),
+        (&[(4628, BLOCK + 128)], Some((20, 4628))),
+        (&[(4625, 97)], Some((30, 4625))),
+        // In version 1 the third column stands in the block, where its array of codes begins with the first leaf.
+        (&[(513, 1)], Some((10, 2185))),
+    ];
+    for (changes, told) in cases {
+        let found = told_of(rt.alloc(), &[&TABLE, &TWO_COMMITS, changes])?;
+        assert_eq!(rt; found, Some(told), "{changes:?}");
+    }
+    Ok(())
+}
+
 // A second table `u a:int b:text`, whose block is the second slot of page 4, with its second column in the first
 // extension of the table `t`.
 const SHARED_EXTENSION: [Change; 9] = [
@@ -242,7 +272,7 @@ fn an_extension_has_one_table(rt: HostRuntime) -> Result<(), Fail> {
 
 #[test]
 fn version_1_is_not_sound(rt: HostRuntime) -> Result<(), Fail> {
-    let cases: [(&[Change], &[Change], Told); 7] = [
+    let cases: [(&[Change], &[Change], Told); 9] = [
         (&[], &[], Some((31, 513))),
         (&[], &[(2062, 7)], Some((31, 513))),
         (&[], &[(2041, 1)], Some((18, 2041))),
@@ -255,6 +285,9 @@ fn version_1_is_not_sound(rt: HostRuntime) -> Result<(), Fail> {
             Some((31, 513)),
         ),
         (&ROWS, &[(2563, 4)], Some((27, 2563))),
+        // With a row, its value and its leaf.
+        (&VALUE, &[], Some((31, 513))),
+        (&VALUE, &[(513, 2), (2062, 1)], None),
     ];
     for (rows, changes, told) in cases {
         let found = told_of(rt.alloc(), &[&TABLE, rows, &FIRST_VERSION, changes])?;

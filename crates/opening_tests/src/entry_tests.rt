@@ -125,13 +125,14 @@ fn the_first_broken_rule_of_a_table_is_told(rt: HostRuntime) -> Result<(), Fail>
 
 #[test]
 fn the_first_broken_rule_of_extensions_is_told(rt: HostRuntime) -> Result<(), Fail> {
-    let cases: [(&[Change], Told); 15] = [
+    let cases: [(&[Change], Told); 16] = [
         (&[], None),
         // A pointer to no extension, one that doesn't lie in its segment, and one that was reached before.
         (&[(2061, 0)], Some((9, 2061))),
         (&[(2568, 0)], Some((9, 2568))),
         (&[(2568, LAST_PAGE + 465)], Some((9, 2568))),
         (&[(2568, EXTENSION)], Some((9, 2568))),
+        (&[(2056, 4), (2632, EXTENSION)], Some((9, 2632))),
         // The pointer after them: null, or one of an extension that isn't published.
         (&[(2632, 1)], Some((9, 2632))),
         (&[(2632, LAST_PAGE + 464)], None),

@@ -4,7 +4,8 @@ ghost use Rattle.std.specs.Prelude.{◌≡◌, ◌≤◌, IfOk, IsTrue, None};
 ghost use Rattle.image_layout.specs.Checks.{first_fault};
 ghost use Rattle.pmem_recover.specs.EntryRules.{entry_rules};
 
-use crate::ground::{BLOCK, Change, FIRST_VERSION, PAGE_5, TABLE, VALUE, image};
+use crate::check_tests::{Told, told};
+use crate::ground::{BLOCK, Change, FIRST_VERSION, PAGE_5, PAGE_9, TABLE, VALUE, image};
 use pm_model::{Action, Keep, Memory, Place, Plain, Plan, fresh};
 use pmem_recover::{
     NoMemory, check_entry, next_clear, next_idle, next_lane, next_last, next_slot, next_undo,
@@ -159,14 +160,12 @@ fn assert_step(
     Ok(())
 }
 
-// The pointers to the pages 6 to 9.
+// The pointers to the pages 6 to 8.
 const PAGE_6: u64 = PAGE_5 + 512;
 
 const PAGE_7: u64 = PAGE_5 + 1024;
 
 const PAGE_8: u64 = PAGE_5 + 1536;
-
-const PAGE_9: u64 = PAGE_5 + 2048;
 
 // The pointer to the table slot behind that of the one table, whose place is 521.
 const SLOT: u64 = 4_294_967_817;
@@ -646,6 +645,11 @@ fn show_the_same(words: &[u64], others: &[u64]) -> bool {
     same
 }
 
+// The one rule that an image of version 1 may break, where it is one.
+fn old_version(words: &[u64]) -> Told {
+    (words.get(513) == Some(&1)).then_some((31, 513))
+}
+
 // The words that the step comes to from an image.
 fn of_version_2(rt: &impl Abort, alloc: Global, cut: Vec<u64>) -> Result<Vec<u64>, NoMemory> {
     assert_eq!(rt; cut.len(), 32768);
@@ -664,6 +668,7 @@ fn a_cut_step_to_version_2_is_made_anew(rt: HostRuntime) -> Result<(), Fail> {
         for keep in [Keep::Nothing, Keep::All] {
             let cut = cut_version(&rt, alloc, played, keep)?;
             assert!(rt; show_the_same(&cut, &second), "{played}");
+            assert_eq!(rt; told(alloc, &cut), Some(old_version(&cut)), "{played}");
             let words = of_version_2(&rt, alloc, cut)?;
             assert!(rt; words == second, "{played}");
         }
