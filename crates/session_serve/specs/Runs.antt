@@ -18,7 +18,7 @@ use Rattle.script_text.specs.declared.script.Line.{Line}
 use Rattle.script_text.specs.declared.error.ScriptError.{ScriptError}
 use Rattle.script_text.specs.declared.error.ScriptError.TheVariants as script_error
 use Rattle.script_text.specs.Printed.{history_text}
-use Rattle.script_text.specs.Reading.{script_of}
+use Rattle.script_text.specs.Reading.{MayLackMemory, script_of}
 use Rattle.session_serve.specs.Moments.{IsFinished, IsFirstAt, IsRun, IsUncut, Moment}
 use Rattle.command_line.specs.declared.words.Job.{Job}
 use Rattle.command_line.specs.declared.words.Job.TheVariants as job
@@ -204,9 +204,11 @@ pub record LacksImage (before after : SourceState) : Type 0 where
   pub kept : after.faults ≡ before.faults
   pub header : OfWholeInput HasHeader before after
 
--- memory ran out before a script was read: its source has not failed
+-- memory ran out before a script was read: its source has not failed, and where its end was seen, memory ran out at a
+-- line behind lines that are all accepted
 pub record LacksScript (before after : SourceState) : Type 0 where
   pub kept : after.faults ≡ before.faults
+  pub lines : OfWholeInput MayLackMemory before after
 
 -- the image and the script were read, and the image keeps the rules that are tried without memory
 pub record ReadsBoth (before after : Streams) : Type 0 where

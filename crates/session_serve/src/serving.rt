@@ -112,6 +112,7 @@ fn play_and_write<J: Sink, O: Sink>(
 }
 
 /// Reads an image and a script, runs the script over the image, and writes what it leaves.
+#[tactic(auto, using(crate::proofs::Shortages::lacks_untouched))]
 fn read_and_play<I: Source, S: Source, J: Sink, O: Sink>(
     alloc: Global,
     cut: Option<u64>,
