@@ -193,6 +193,63 @@ fn rows_of_other_lengths(rt: HostRuntime) -> Result<(), Fail> {
     Ok(())
 }
 
+/// A record of each number of columns, integers and texts in turn.
+const WIDTHS: [(&str, &str); 16] = [
+    ("i", "1\n"),
+    ("it", "1,b\n"),
+    ("iti", "1,b,3\n"),
+    ("itit", "1,b,3,d\n"),
+    ("ititi", "1,b,3,d,5\n"),
+    ("ititit", "1,b,3,d,5,f\n"),
+    ("itititi", "1,b,3,d,5,f,7\n"),
+    ("itititit", "1,b,3,d,5,f,7,h\n"),
+    ("ititititi", "1,b,3,d,5,f,7,h,9\n"),
+    ("ititititit", "1,b,3,d,5,f,7,h,9,j\n"),
+    ("itititititi", "1,b,3,d,5,f,7,h,9,j,11\n"),
+    ("itititititit", "1,b,3,d,5,f,7,h,9,j,11,l\n"),
+    ("ititititititi", "1,b,3,d,5,f,7,h,9,j,11,l,13\n"),
+    ("ititititititit", "1,b,3,d,5,f,7,h,9,j,11,l,13,n\n"),
+    ("itititititititi", "1,b,3,d,5,f,7,h,9,j,11,l,13,n,15\n"),
+    ("itititititititit", "1,b,3,d,5,f,7,h,9,j,11,l,13,n,15,p\n"),
+];
+
+/// How many values the text's only row has, if it is written as the text again.
+fn width(alloc: Global, kinds: &str, text: &[u8]) -> Result<usize, LoadError> {
+    let rows = rows_of(alloc, kinds, text)?;
+    let written = printed(alloc, rows.as_slice())?;
+    match rows.as_slice() {
+        [row] if written.as_slice() == text => Ok(row.as_slice().len()),
+        _ => Ok(0),
+    }
+}
+
+#[test]
+fn one_to_sixteen_columns(rt: HostRuntime) -> Result<(), Fail> {
+    for (kinds, text) in WIDTHS {
+        let width = width(rt.alloc(), kinds, text.as_bytes())?;
+        assert_eq!(rt; width, kinds.len());
+    }
+    Ok(())
+}
+
+/// Whether each text is refused for its count wherever there are more or fewer columns.
+fn are_refused_elsewhere(alloc: Global) -> Result<bool, NoMemory> {
+    for (kinds, _) in WIDTHS {
+        for (others, text) in WIDTHS {
+            if kinds != others && !is_read_as(alloc, kinds, text.as_bytes(), "count 1")? {
+                return Ok(false);
+            }
+        }
+    }
+    Ok(true)
+}
+
+#[test]
+fn one_to_sixteen_columns_and_no_other_number(rt: HostRuntime) -> Result<(), Fail> {
+    assert!(rt; are_refused_elsewhere(rt.alloc())?);
+    Ok(())
+}
+
 /// How many rows the text has, if they are written as the text again, and these read and written once more.
 fn round_trip(alloc: Global, text: &[u8]) -> Result<usize, LoadError> {
     let rows = rows_of(alloc, "ittiii", text)?;
