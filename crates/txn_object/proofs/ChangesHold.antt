@@ -7,7 +7,7 @@ use Rattle.pm_model.specs.Plans.{Part, EachCut, one_store, stores, unless_empty}
 use Rattle.pm_model.proofs.Cuts.{store_part, one_store-cut, each_cut-map}
 use Rattle.image_layout.specs.declared.layout.TheConstants.{OBJECTS}
 use Rattle.image_layout.specs.Blocks.{live_blocks}
-use Rattle.image_layout.specs.SoundRules.{IsSound}
+use Rattle.image_layout.specs.SoundRules.{IsIntact}
 use Rattle.heap_palloc.specs.Index.{HeapIndex, IsIndexOf}
 use Rattle.image_layout.specs.Fixed.{lane_op_at, state_at, commit_word_at}
 use Rattle.image_layout.specs.Objects as objects
@@ -245,8 +245,8 @@ place_object words object is has =
     let size = is.size in
     apart_from_blocks words object (omega (arith, number)) (omega (arith, size)) is.whole has
 
-pub sound_extension : (words : List ℕ) (index : HeapIndex) (object : ℕ) → object < OBJECTS → IsSound words → IsIndexOf words index → MayPlanExtension words index object
-sound_extension words index object number sound is = intact_extends words sound.intact object (omega (arith, number)) index is
+pub intact_extension : (words : List ℕ) (index : HeapIndex) (object : ℕ) → object < OBJECTS → IsIntact words → IsIndexOf words index → MayPlanExtension words index object
+intact_extension words index object number intact is = intact_extends words intact object (omega (arith, number)) index is
 
 pub own_segments : (words : List ℕ) (object : ℕ) → IsObjectOf words object → HasSegments words object
 own_segments words object is = let number = is.number in has_segments words object is.rules is.owners (omega (arith, number))

@@ -3,7 +3,7 @@ ghost use Rattle.std.specs.Prelude.{◌≡◌, ◌↔◌, ℕ, ◌≤◌, ◌<�
 ghost use Rattle.image_layout.specs.declared.layout.TheConstants.{OBJECTS};
 ghost use Rattle.image_layout.specs.Fixed.{last_at, state_at};
 ghost use Rattle.image_layout.specs.Objects.{entry_places};
-ghost use Rattle.image_layout.specs.SoundRules.{IsSound};
+ghost use Rattle.image_layout.specs.SoundRules.{IsIntact};
 ghost use Rattle.pm_model.specs.Changes.{Survives};
 ghost use Rattle.pm_model.specs.Plans.{Part, EachCut, finished, footprint, plan_of};
 ghost use Rattle.heap_palloc.specs.Index.{HeapIndex, IsIndexOf};
@@ -57,11 +57,12 @@ pub fn extension_law()
         MayExtend base e → IsIndexOf (source_words base e) index →
         MayPlanExtension (source_words base e) index e.object }
 
-    // Segments that are blocks of the heap share no word. In a sound image an extension may be planned of each object.
+    // Segments that are blocks of the heap share no word. In an intact image, of either version, an extension may be
+    // planned of each object.
     ensures object { (words : List ℕ) (object : ℕ) → IsObjectPlace words object → HasSegments words object →
         HasObject words object }
-    ensures sound { (words : List ℕ) (index : HeapIndex) (object : ℕ) →
-        object < OBJECTS → IsSound words → IsIndexOf words index → MayPlanExtension words index object }
+    ensures intact { (words : List ℕ) (index : HeapIndex) (object : ℕ) →
+        object < OBJECTS → IsIntact words → IsIndexOf words index → MayPlanExtension words index object }
 {}
 
 /// A retire, for a plan that ends with it: until its first part is fenced the words are the old ones or the object is

@@ -1,5 +1,5 @@
 use Rattle.shown_state.specs.CommitLaws.{two_commit_image}
-use Rattle.txn_object.proofs.ChangesHold.{sound_extension}
+use Rattle.txn_object.proofs.ChangesHold.{intact_extension}
 use Rattle.law_instances.proofs.WorkedImages.{first_version_begins, first_version_is_image, first_version_is_intact, first_version_is_old, first_version_is_shown, next_extension_is_target, two_commits_are_sound, two_commits_have_arrays, two_commits_may_grow}
 use Rattle.law_instances.proofs.laws.written_images_law.Goals as goal
 
@@ -11,6 +11,6 @@ returns c = record {
   intact = (first_version_is_image, first_version_is_intact, first_version_begins);
   next = next_extension_is_target;
   arrays = λ header one_of. two_commits_have_arrays header one_of;
-  extends = λ index object lt index_of. sound_extension two_commit_image index object lt two_commits_are_sound index_of;
+  extends = λ index object lt index_of. intact_extension two_commit_image index object lt two_commits_are_sound.intact index_of;
   grows = λ index index_of. two_commits_may_grow index index_of;
 }
