@@ -19,6 +19,7 @@ pub mod OwnedChecks
 pub mod OwnerChecks
 pub mod OwnerWalk
 pub mod RestChecks
+pub mod SoundFault
 pub mod SplitChecks
 pub mod StampChecks
 pub mod TableArrays

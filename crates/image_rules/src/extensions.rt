@@ -10,7 +10,7 @@ use image_layout::{extension_column, first_extension, inner_columns, next_extens
 use pm_model::{EXTENSION_WORDS, FIRST_VERSION, MAX_COLUMNS, Place, column, column_count, version};
 
 /// Whether the image is of version 1: all columns of a table stand in its block.
-pub fn is_first_version(words: &[u64]) -> bool
+pub(crate) fn is_first_version(words: &[u64]) -> bool
     requires { 32768 ≤ length words.now }
     ensures { result ≡ tables.is_first_version words.now }
 {
@@ -63,7 +63,7 @@ pub(crate) fn is_inner(words: &[u64], block: Place, number: u8) -> bool
 }
 
 /// The record of a table's column, by its number.
-pub fn column_record(words: &[u64], block: Place, number: u8) -> Place
+pub(crate) fn column_record(words: &[u64], block: Place, number: u8) -> Place
     requires most { length words.now ≤ 4194304 }
     requires block { IsTableBlock words.now block.0 }
     requires number { number < tables.column_count words.now block.0 }

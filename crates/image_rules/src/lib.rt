@@ -7,6 +7,8 @@
 //!   rule.
 //! - `entry_fault` tries the rules of every image that a power cut can leave, in the order of their numbers.
 //! - `pointed_place`, `pointed_words` and `is_block_pointer` say what a word points to.
+//! - `sound_law` says of the first fault among all rules what it says of an image: that it is sound where there is none,
+//!   and intact where the last rule alone is broken.
 //! - The rules of owner words are tried of tables, arrays, leaves and transaction objects: `built_owners_law` says that
 //!   these are all, where the tree of each column is empty.
 //!
@@ -34,6 +36,7 @@ mod owner_rules;
 mod owner_words;
 mod pointers;
 mod rest_rules;
+mod sound_laws;
 mod split_rules;
 mod stamp_rules;
 mod table_rules;
@@ -41,7 +44,6 @@ mod table_rules;
 pub use array_rules::{arrays_fault, capacity};
 pub use distinct_rules::distinct_name_fault;
 pub use entry_rules::{entries_fault, next_segment, ready_count};
-pub use extensions::{column_record, is_first_version};
 pub use first_words::{last_fault, latest_version_fault, magic_fault, version_fault};
 pub use heap_rules::{bitmap_fault, descriptor_fault, is_small_page, reserved_fault};
 pub use lane_rules::lane_fault;
@@ -52,6 +54,7 @@ pub use owner_laws::built_owners_law;
 pub use owner_rules::{owned_fault, owner_fault, single_owner_fault};
 pub use pointers::{is_block_pointer, is_null_or_words, pointed_place, pointed_words};
 pub use rest_rules::{closed_fault, given_back_fault, idle_fault};
+pub use sound_laws::sound_law;
 pub use split_rules::split_log_fault;
 pub use stamp_rules::stamp_fault;
 pub use table_rules::{
