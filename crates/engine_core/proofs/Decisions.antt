@@ -17,7 +17,7 @@ use Rattle.pm_model.specs.Plans.{one_store, words_after, plan_of, finished}
 use Rattle.pm_model.proofs.Alone.{length-words_after}
 use Rattle.pm_model.proofs.Cuts.{store_part}
 use Rattle.txn_object.specs.Entries.{entry_word}
-use Rattle.stage_object.specs.Object.{begin_parts}
+use Rattle.txn_object.specs.Object.{begin_parts}
 use Rattle.engine_core.specs.Stage.{high_at, born_at, ended_at, value_at}
 use Rattle.engine_core.specs.StagePlans.{created_entry, insert_parts}
 use Rattle.engine_core.specs.StageRules.{IsStage, state_word}

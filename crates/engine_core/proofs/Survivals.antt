@@ -12,7 +12,7 @@ use Rattle.pm_model.specs.declared.action.Action.{Action}
 use Rattle.image_layout.specs.Fixed.{last_at, state_at, entry_at}
 use Rattle.pm_model.specs.Plans.{Part, EachCut, IsPlan, finished, one_store, plan_of, words_after}
 use Rattle.pm_model.proofs.Cuts.{cut-one_store, store_part}
-use Rattle.stage_object.specs.Object.{begin_parts}
+use Rattle.txn_object.specs.Object.{begin_parts}
 use Rattle.txn_object.specs.Entries.{entry_word}
 use Rattle.stage_view.specs.Quiet.{HasNoEntry, IsQuiet}
 use Rattle.stage_view.specs.StageView.{MayInsert}

@@ -12,7 +12,7 @@ use Rattle.mv_model.specs.View.{next_row_of}
 use Rattle.mv_model.specs.Next.{next}
 use Rattle.pm_model.specs.declared.action.Action.{Action}
 use Rattle.pm_model.specs.Plans.{plan_of}
-use Rattle.stage_object.specs.Object.{begin_parts}
+use Rattle.txn_object.specs.Object.{begin_parts}
 use Rattle.engine_core.specs.LogicalState.{key_word_of}
 use Rattle.engine_core.specs.StagePlans.{close_parts, commit_late, commit_parts, insert_parts}
 

@@ -1,5 +1,5 @@
 -- Which images a power cut may leave, and what is recovered from them.
-use Rattle.std.specs.Prelude.{◌≡◌, ◌⊎◌, ℕ, ◌-◌, ◌<◌, ◌≤◌, not, ◌==◌, true, List, ◌++◌, filter, map, slice_index, Option, Some, None, Contains}
+use Rattle.std.specs.Prelude.{◌≡◌, ◌⊎◌, ℕ, ◌<◌, ◌≤◌, not, ◌==◌, true, List, ◌++◌, filter, map, slice_index, Option, Some, None, Contains}
 use Rattle.mv_model.specs.declared.call.Call.{Call}
 use Rattle.mv_model.specs.declared.call.Call.TheVariants as call
 use Rattle.mv_model.specs.declared.reply.Reply.TheVariants as reply
@@ -10,6 +10,7 @@ use Rattle.mv_model.specs.State.{State, Table}
 use Rattle.mv_model.specs.View.{next_row_of}
 use Rattle.pm_model.specs.Device.{Device}
 use Rattle.image_layout.specs.Fixed.{commit_word_at}
+use Rattle.txn_object.specs.Object.{own_object}
 use Rattle.txn_object.specs.declared.entry.EntryKind.TheVariants.{Created, Ended}
 pub use Rattle.stage_view.specs.StageFits.{IsUndecided, IsBornBy, IsEndedBy}
 pub use Rattle.stage_view.specs.StageWords.{used_up}
@@ -72,7 +73,7 @@ MayRecoverTo opened history undecided state =
 
 -- the place of the word that decides a call: of a commit, the commit word of its session's object
 abbrev pub deciding_word : Entry → ℕ
-deciding_word entry = commit_word_at (entry.session - 1)
+deciding_word entry = commit_word_at (own_object entry.session)
 
 -- of these entries those whose deciding word is stored and isn't durable
 abbrev pub undecided : Device → List Entry → List Entry

@@ -49,7 +49,7 @@ pub(crate) fn decide<M: Memory>(
     requires begun { now.begun < 2 ^ 64 - 1 }
     ensures { IsDecision (M.device memory.now).cached now said.now result }
 {
-    match settle(alloc, memory, now, said) {
+    match try_to_decide(alloc, memory, now, said) {
         Ok(decision) => decision,
         Err(_) => Decision {
             reply: Reply::NoMemory,
@@ -61,7 +61,7 @@ pub(crate) fn decide<M: Memory>(
     }
 }
 
-fn settle<M: Memory>(
+fn try_to_decide<M: Memory>(
     alloc: Global,
     memory: &M,
     now: Transactions,
@@ -74,13 +74,13 @@ fn settle<M: Memory>(
     ensures memory { OnErr result (MayWantMemory (M.device memory.now).cached now said.now) }
 {
     match now.running {
-        None => settle_outside(alloc, memory, now.begun, said),
-        Some(own) => settle_inside(alloc, memory, now.begun, own, said),
+        None => decide_outside(alloc, memory, now.begun, said),
+        Some(own) => decide_inside(alloc, memory, now.begun, own, said),
     }
 }
 
 // Decides a call while no transaction is open.
-fn settle_outside<M: Memory>(
+fn decide_outside<M: Memory>(
     alloc: Global,
     memory: &M,
     begun: u64,
@@ -108,7 +108,7 @@ fn settle_outside<M: Memory>(
 }
 
 // Decides a call while a transaction is open.
-fn settle_inside<M: Memory>(
+fn decide_inside<M: Memory>(
     alloc: Global,
     memory: &M,
     begun: u64,

@@ -6,7 +6,8 @@ use Rattle.pm_model.specs.Device.{Device, acted}
 use Rattle.pm_model.specs.Plans.{Part, part_actions, plan_of, IsPlan, run, MayPlay, at_rest}
 use Rattle.pm_model.proofs.Alone.{may_play-plan}
 use Rattle.txn_object.specs.declared.entry.Entry.{Entry}
-use Rattle.stage_object.specs.Object.{begin_parts, entry_part, retire_parts}
+use Rattle.txn_object.specs.Object.{begin_parts}
+use Rattle.stage_object.specs.Object.{entry_part, retire_parts}
 use Rattle.stage_object.specs.Shown.{HasObject}
 use Rattle.stage_object.proofs.Retire.{retire_plan}
 

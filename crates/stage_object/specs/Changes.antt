@@ -6,7 +6,8 @@ use Rattle.pm_model.specs.Plans.{Part}
 use Rattle.txn_object.specs.declared.entry.Entry.{Entry}
 use Rattle.txn_object.specs.Changes.{IsSpelt, NewEntry, Retirement}
 use Rattle.txn_object.specs.Entries.{entry_word}
-use Rattle.stage_object.specs.Object.{entries_in, begin_parts, entry_part, retire_parts}
+use Rattle.txn_object.specs.Object.{begin_parts}
+use Rattle.stage_object.specs.Object.{entries_in, entry_part, retire_parts}
 use Rattle.stage_object.specs.Shown.{Transaction, Shows, HasObject, NoEntryFollowsZero, MayAddEntry, IsRetiring, IsRetired}
 
 -- what the plans of an object read is the same: its words

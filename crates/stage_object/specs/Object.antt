@@ -1,4 +1,5 @@
--- A transaction object: what stands in its words, and the parts that change it.
+-- A transaction object of a stage image: what stands in its words, and the parts that change it. Its begin is that of
+-- any transaction object.
 use Rattle.std.specs.Prelude.{ℕ, zero, suc, ◌+◌, ◌/◌, Bool, ◌==◌, if◌then◌else◌, List, [], ◌∷◌, ◌++◌, map, slice_index}
 use Rattle.std.specs.List.{range_with_len}
 use Rattle.image_layout.specs.Fixed.{state_at, commit_word_at, entry_at}
@@ -26,10 +27,6 @@ free_among words object (suc places) = free_among words object places
 -- how many entry words of an object are 0
 unfoldable pub free_entries_in : List ℕ → ℕ → ℕ
 free_entries_in words object = free_among words object 60
-
--- a begin: the object is open
-abbrev pub begin_parts : ℕ → List Part
-begin_parts object = one_store (state_at object) 1 ∷ []
 
 -- one more entry, at its place
 abbrev pub entry_part : ℕ → ℕ → Entry → Part

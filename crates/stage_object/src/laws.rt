@@ -8,7 +8,8 @@ ghost use Rattle.txn_object.specs.declared.entry.Entry.{Entry};
 ghost use Rattle.txn_object.specs.Changes.{IsSpelt, NewEntry, Retirement};
 ghost use Rattle.txn_object.specs.Entries.{entry_word, entry_of};
 ghost use Rattle.stage_object.specs.Changes.{beginning, entering, entry_parts, retiring, MayBeRetired, IsRetiringBy, IsRetiredBy, ClearsAll, ClearsCommit, no_transaction};
-ghost use Rattle.stage_object.specs.Object.{entries_in, free_entries_in, begin_parts, clear_part, retire_parts, retire_length};
+ghost use Rattle.txn_object.specs.Object.{begin_parts};
+ghost use Rattle.stage_object.specs.Object.{entries_in, free_entries_in, clear_part, retire_parts, retire_length};
 ghost use Rattle.stage_object.specs.Shown.{Shows, NoEntryFollowsZero, IsCleared, HasSameEntries};
 
 /// The entries of an object, word by word.

@@ -21,5 +21,6 @@ mod laws;
 mod object;
 
 pub use laws::{begin_law, entries_law, entry_law, retire_law};
-pub use object::{entries, free_entries, plan_begin, push_entry, push_retire, retire_actions};
+pub use object::{entries, free_entries, push_entry, push_retire, retire_actions};
 pub use pm_model::NoMemory;
+pub use txn_object::plan_begin;

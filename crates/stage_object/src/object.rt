@@ -1,37 +1,25 @@
-// The words of a session's transaction object in a stage image, and the parts of plans that change them. Session k has
-// object k - 1.
-ghost use Rattle.std.specs.Prelude.{◌≡◌, ◌+◌, ◌-◌, ◌^◌, ◌<◌, ◌≤◌, ◌||◌, ◌==◌, ◌++◌, not, if◌then◌else◌, length, IfOk, IsTrue};
+// The words of a session's transaction object in a stage image, and the parts of plans that change them.
+ghost use Rattle.std.specs.Prelude.{◌≡◌, ◌+◌, ◌^◌, ◌<◌, ◌≤◌, ◌||◌, ◌==◌, ◌++◌, not, if◌then◌else◌, length, IfOk, IsTrue};
 ghost use Rattle.pm_model.specs.Plans.{part_actions, plan_of, one_store};
-ghost use Rattle.stage_object.specs.Object.{entries_in, free_entries_in, begin_parts, entry_part, clear_part, clear_length, retire_parts, retire_length};
+ghost use Rattle.txn_object.specs.Object.{own_object};
+ghost use Rattle.stage_object.specs.Object.{entries_in, free_entries_in, entry_part, clear_part, clear_length, retire_parts, retire_length};
 
 use pm_model::{
     Action, Memory, NoMemory, OBJECT_ENTRIES, Place, Plan, commit_word, entry_word, object_state,
 };
 use std::alloc::Global;
-use txn_object::{Entry, EntryList};
+use txn_object::{Entry, EntryList, object_of};
 
 // The actions of a part of one store: the store, a flush and a fence.
 const STORE_ACTIONS: u32 = 3;
-
-/// A plan that opens the session's transaction object. It has 3 actions.
-pub fn plan_begin(alloc: Global, session: u8) -> Result<Plan, NoMemory>
-    requires first { 1 ≤ session }
-    requires last { session ≤ 16 }
-    ensures { IfOk result (λ plan. plan.left ≡ plan_of (begin_parts (session - 1))) }
-{
-    let mut plan = Plan::with_room(alloc, STORE_ACTIONS)?;
-    // From here on the transaction is open: opening undoes what its entries name, unless its commit word is set.
-    plan.push_store(object_state(session - 1), 1);
-    Ok(plan)
-}
 
 /// The entries of the session's transaction, in order.
 pub fn entries<M: Memory>(alloc: Global, mem: &M, session: u8) -> Result<EntryList, NoMemory>
     requires first { 1 ≤ session }
     requires last { session ≤ 16 }
-    ensures { IfOk result (λ list. list.entries ≡ entries_in (M.device mem.now).cached (session - 1)) }
+    ensures { IfOk result (λ list. list.entries ≡ entries_in (M.device mem.now).cached (own_object session)) }
 {
-    let object = session - 1;
+    let object = object_of(session);
     let mut list = EntryList::with_room(alloc, u32::from(OBJECT_ENTRIES))?;
     for nth in 0..OBJECT_ENTRIES {
         let word = mem.load(entry_word(object, nth));
@@ -47,9 +35,9 @@ pub fn entries<M: Memory>(alloc: Global, mem: &M, session: u8) -> Result<EntryLi
 pub fn free_entries<M: Memory>(mem: &M, session: u8) -> u32
     requires first { 1 ≤ session }
     requires last { session ≤ 16 }
-    ensures { result ≡ free_entries_in (M.device mem.now).cached (session - 1) }
+    ensures { result ≡ free_entries_in (M.device mem.now).cached (own_object session) }
 {
-    let object = session - 1;
+    let object = object_of(session);
     let mut free = 0;
     for nth in 0..OBJECT_ENTRIES {
         if mem.load(entry_word(object, nth)) == 0 {
@@ -67,11 +55,11 @@ pub fn push_entry(plan: &mut Plan, session: u8, nth: u32, entry: Entry)
     requires in_object { nth < 60 }
     requires table { entry.table < 2 ^ 24 }
     requires room { 2 < plan.old.spare }
-    ensures left { plan.new.left ≡ plan.old.left ++ part_actions (entry_part (session - 1) nth entry) }
+    ensures left { plan.new.left ≡ plan.old.left ++ part_actions (entry_part (own_object session) nth entry) }
     ensures spare { plan.new.spare + 3 ≡ plan.old.spare }
 {
     // From here on the entry is the transaction's: what it names may be stored behind it.
-    plan.push_store(entry_word(session - 1, nth as u8), entry.word());
+    plan.push_store(entry_word(object_of(session), nth as u8), entry.word());
 }
 
 /// How many actions `push_retire` adds.
@@ -93,10 +81,10 @@ pub fn push_retire(plan: &mut Plan, session: u8, entries: u32, word: bool)
     requires last { session ≤ 16 }
     requires in_object { entries ≤ 60 }
     requires room { retire_length entries word ≤ plan.old.spare }
-    ensures left { plan.new.left ≡ plan.old.left ++ plan_of (retire_parts (session - 1) entries word) }
+    ensures left { plan.new.left ≡ plan.old.left ++ plan_of (retire_parts (own_object session) entries word) }
     ensures spare { plan.new.spare + retire_length entries word ≡ plan.old.spare }
 {
-    let object = session - 1;
+    let object = object_of(session);
     // The object is idle before its words are cleared: else opening would undo what it had no entry for any more.
     plan.push_store(object_state(object), 0);
     if entries > 0 || word {

@@ -1,10 +1,14 @@
 -- A transaction object and its segments: what stands in its words, and the parts that change them.
-use Rattle.std.specs.Prelude.{◌≡◌, ℕ, ◌+◌, ◌<◌, Bool, ◌==◌, if◌then◌else◌, List, [], ◌∷◌, ◌++◌, length, take, map, count_by, slice_index}
+use Rattle.std.specs.Prelude.{◌≡◌, ℕ, ◌+◌, ◌-◌, ◌<◌, Bool, ◌==◌, if◌then◌else◌, List, [], ◌∷◌, ◌++◌, length, take, map, count_by, slice_index}
 use Rattle.image_layout.specs.Fixed.{state_at, commit_word_at}
 use Rattle.pm_model.specs.Plans.{Part, stores, one_store, unless_empty}
 use Rattle.image_layout.specs.Objects.{entries, entry_places}
 use Rattle.txn_object.specs.declared.entry.Entry.{Entry}
 use Rattle.txn_object.specs.Entries.{entry_word, entry_of}
+
+-- the object of a session, of which the first is session 1
+abbrev pub own_object : ℕ → ℕ
+own_object session = session - 1
 
 -- the entries of an object, in order
 abbrev pub entries_in : List ℕ → ℕ → List Entry

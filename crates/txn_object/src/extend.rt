@@ -1,15 +1,16 @@
 // Planning the extension of a transaction object by a segment.
-ghost use Rattle.std.specs.Prelude.{ℕ, ◌≡◌, ◌≢◌, ◌↔◌, ◌+◌, ◌-◌, ◌%◌, ◌<◌, ◌≤◌, ◌++◌, Err, IfOk, OnErr, length, slice_index};
+ghost use Rattle.std.specs.Prelude.{ℕ, ◌≡◌, ◌≢◌, ◌↔◌, ◌+◌, ◌%◌, ◌<◌, ◌≤◌, ◌++◌, Err, IfOk, OnErr, length, slice_index};
 ghost use Rattle.pm_model.specs.Plans.{plan_of};
 ghost use Rattle.image_layout.specs.Objects.{ready_count, pointer_after};
 ghost use Rattle.heap_palloc.specs.Calls.{IsFull};
 ghost use Rattle.txn_object.specs.declared.error.ExtendError.TheVariants.{WriteSetFull, Full};
 ghost use Rattle.txn_object.specs.Extension.{readying_parts};
+ghost use Rattle.txn_object.specs.Object.{own_object};
 ghost use Rattle.txn_object.specs.Calls.{next_pointer, MayPlanExtension, IsExtensionPlanned, IsSegmentPlanned, HasNoRoom};
 
 use crate::error::ExtendError;
 use crate::object::push_zeros;
-use crate::segments::{pointer_to, ready};
+use crate::segments::{object_of, pointer_to, ready};
 use heap_palloc::{Heap, plan_allocate};
 use pm_model::{
     ENTRY_SEGMENT_WORDS, MAX_ENTRY_SEGMENTS, Memory, Place, Plan, named_place, ready_segments,
@@ -35,19 +36,19 @@ pub fn plan_extend<M: Memory>(
 ) -> Result<Plan, ExtendError>
     requires first { 1 ≤ session }
     requires last { session ≤ 16 }
-    requires may { MayPlanExtension (M.device mem.now).cached heap.old (session - 1) }
+    requires may { MayPlanExtension (M.device mem.now).cached heap.old (own_object session) }
 
     ensures planned { IfOk result (λ plan.
-        IsExtensionPlanned (M.device mem.now).cached heap.old heap.new (session - 1) plan.left) }
+        IsExtensionPlanned (M.device mem.now).cached heap.old heap.new (own_object session) plan.left) }
 
-    ensures write_set_full { ready_count (M.device mem.now).cached (session - 1) ≡ 32 ↔ (result ≡ Err WriteSetFull) }
+    ensures write_set_full { ready_count (M.device mem.now).cached (own_object session) ≡ 32 ↔ (result ≡ Err WriteSetFull) }
     ensures full { (need largest : ℕ) → result ≡ Err (Full need largest) →
-        HasNoRoom (M.device mem.now).cached (session - 1) need largest }
+        HasNoRoom (M.device mem.now).cached (own_object session) need largest }
     ensures room { IfOk result (λ _.
-        next_pointer (M.device mem.now).cached (session - 1) ≡ 0 → IsFull (M.device mem.now).cached 256 → ⊥) }
+        next_pointer (M.device mem.now).cached (own_object session) ≡ 0 → IsFull (M.device mem.now).cached 256 → ⊥) }
     ensures unchanged { OnErr result (heap.new ≡ heap.old) }
 {
-    let object = session - 1;
+    let object = object_of(session);
     let count = ready(mem, object);
     if count == MAX_ENTRY_SEGMENTS {
         return Err(ExtendError::WriteSetFull);

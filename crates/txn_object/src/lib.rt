@@ -41,3 +41,4 @@ pub use object::{plan_begin, push_entry, push_retire, retire_room};
 pub use owned::owned_segments_law;
 pub use pm_model::NoMemory;
 pub use reading::{entries, free_entries};
+pub use segments::object_of;

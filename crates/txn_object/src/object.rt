@@ -1,14 +1,14 @@
-// The plans of a transaction on its object. Session k has object k - 1.
-ghost use Rattle.std.specs.Prelude.{ℕ, List, ◌≡◌, ◌+◌, ◌-◌, ◌*◌, ◌^◌, ◌<◌, ◌≤◌, ◌||◌, ◌==◌, ◌++◌, min, not, take, length, if◌then◌else◌, IfOk, IsTrue};
+// The plans of a transaction on its object.
+ghost use Rattle.std.specs.Prelude.{ℕ, List, ◌≡◌, ◌+◌, ◌*◌, ◌^◌, ◌<◌, ◌≤◌, ◌||◌, ◌==◌, ◌++◌, min, not, take, length, if◌then◌else◌, IfOk, IsTrue};
 ghost use Rattle.std.specs.List.{range_with_len};
 ghost use Rattle.image_layout.specs.Checks.{Keeps};
 ghost use Rattle.image_layout.specs.EntryRules.{object_rule};
 ghost use Rattle.image_layout.specs.Objects.{entry_places};
 ghost use Rattle.pm_model.specs.Plans.{part_actions, plan_of, stores};
-ghost use Rattle.txn_object.specs.Object.{begin_parts, entry_part, clear_part, retire_parts};
+ghost use Rattle.txn_object.specs.Object.{begin_parts, own_object, entry_part, clear_part, retire_parts};
 
 use crate::entry::Entry;
-use crate::segments::{MORE_ENTRIES, OWN_ENTRIES, entry_place};
+use crate::segments::{MORE_ENTRIES, OWN_ENTRIES, entry_place, object_of};
 use pm_model::{
     Action, Memory, NoMemory, Place, Plan, commit_word, entry_word, named_place, object_state,
     segment_entry, segment_pointer,
@@ -22,11 +22,11 @@ const STORE_ACTIONS: u32 = 3;
 pub fn plan_begin(alloc: Global, session: u8) -> Result<Plan, NoMemory>
     requires first { 1 ≤ session }
     requires last { session ≤ 16 }
-    ensures { IfOk result (λ plan. plan.left ≡ plan_of (begin_parts (session - 1))) }
+    ensures { IfOk result (λ plan. plan.left ≡ plan_of (begin_parts (own_object session))) }
 {
     let mut plan = Plan::with_room(alloc, STORE_ACTIONS)?;
     // From here on the transaction is open: opening undoes what its entries name, unless its commit word is set.
-    plan.push_store(object_state(session - 1), 1);
+    plan.push_store(object_state(object_of(session)), 1);
     Ok(plan)
 }
 
@@ -35,16 +35,16 @@ pub fn plan_begin(alloc: Global, session: u8) -> Result<Plan, NoMemory>
 pub fn push_entry<M: Memory>(plan: &mut Plan, mem: &M, session: u8, nth: u32, entry: Entry)
     requires first { 1 ≤ session }
     requires last { session ≤ 16 }
-    requires rule { 60 ≤ nth → Keeps (M.device mem.now).cached (object_rule (session - 1)) }
-    requires there { nth < length (entry_places (M.device mem.now).cached (session - 1)) }
+    requires rule { 60 ≤ nth → Keeps (M.device mem.now).cached (object_rule (own_object session)) }
+    requires there { nth < length (entry_places (M.device mem.now).cached (own_object session)) }
     requires table { entry.table < 2 ^ 24 }
     requires room { 2 < plan.old.spare }
     ensures left { plan.new.left ≡ plan.old.left
-        ++ part_actions (entry_part (M.device mem.now).cached (session - 1) nth entry) }
+        ++ part_actions (entry_part (M.device mem.now).cached (own_object session) nth entry) }
     ensures spare { plan.new.spare + 3 ≡ plan.old.spare }
 {
     // From here on the entry is the transaction's: what it names may be stored behind it.
-    plan.push_store(entry_place(mem, session - 1, nth), entry.word());
+    plan.push_store(entry_place(mem, object_of(session), nth), entry.word());
 }
 
 /// Room that is enough for the actions that `push_retire` adds, for as many entries and, where `word` says so, the
@@ -63,19 +63,20 @@ pub fn retire_room(entries: u32, word: bool) -> u32
 pub fn push_retire<M: Memory>(plan: &mut Plan, mem: &M, session: u8, entries: u32, word: bool)
     requires first { 1 ≤ session }
     requires last { session ≤ 16 }
-    requires rule { 60 < entries → Keeps (M.device mem.now).cached (object_rule (session - 1)) }
-    requires there { entries ≤ length (entry_places (M.device mem.now).cached (session - 1)) }
-    requires room { length (plan_of (retire_parts (M.device mem.now).cached (session - 1) entries word))
+    requires rule { 60 < entries → Keeps (M.device mem.now).cached (object_rule (own_object session)) }
+    requires there { entries ≤ length (entry_places (M.device mem.now).cached (own_object session)) }
+    requires room { length (plan_of (retire_parts (M.device mem.now).cached (own_object session) entries word))
         ≤ plan.old.spare }
     ensures left { plan.new.left ≡ plan.old.left
-        ++ plan_of (retire_parts (M.device mem.now).cached (session - 1) entries word) }
+        ++ plan_of (retire_parts (M.device mem.now).cached (own_object session) entries word) }
     ensures spare { plan.new.spare
-        + length (plan_of (retire_parts (M.device mem.now).cached (session - 1) entries word)) ≡ plan.old.spare }
+        + length (plan_of (retire_parts (M.device mem.now).cached (own_object session) entries word)) ≡ plan.old.spare }
 {
+    let object = object_of(session);
     // The object is idle before its words are cleared: else opening would undo what it had no entry for any more.
-    plan.push_store(object_state(session - 1), 0);
+    plan.push_store(object_state(object), 0);
     if entries > 0 || word {
-        push_clear(plan, mem, session - 1, entries, word);
+        push_clear(plan, mem, object, entries, word);
     }
 }
 

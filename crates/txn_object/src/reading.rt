@@ -1,13 +1,13 @@
 // Reading the entries of a transaction object.
-ghost use Rattle.std.specs.Prelude.{◌≡◌, ◌+◌, ◌-◌, ◌<◌, ◌≤◌, ◌==◌, ◌++◌, ℕ, not, map, filter, count_by, IfOk, length, slice_index};
+ghost use Rattle.std.specs.Prelude.{◌≡◌, ◌+◌, ◌<◌, ◌≤◌, ◌==◌, ◌++◌, ℕ, not, map, filter, count_by, IfOk, length, slice_index};
 ghost use Rattle.std.specs.List.{range_with_len};
 ghost use Rattle.image_layout.specs.Checks.{Keeps};
 ghost use Rattle.image_layout.specs.EntryRules.{object_rule};
 ghost use Rattle.txn_object.specs.Entries.{entry_of};
-ghost use Rattle.txn_object.specs.Object.{entries_in, free_entries_in, NoEntryFollowsZero};
+ghost use Rattle.txn_object.specs.Object.{entries_in, free_entries_in, own_object, NoEntryFollowsZero};
 
 use crate::entry::{Entry, EntryList};
-use crate::segments::{MORE_ENTRIES, OWN_ENTRIES, ready};
+use crate::segments::{MORE_ENTRIES, OWN_ENTRIES, object_of, ready};
 use pm_model::{Memory, NoMemory, Place, entry_word, named_place, segment_entry, segment_pointer};
 use std::alloc::Global;
 
@@ -16,11 +16,11 @@ use std::alloc::Global;
 pub fn entries<M: Memory>(alloc: Global, mem: &M, session: u8) -> Result<EntryList, NoMemory>
     requires first { 1 ≤ session }
     requires last { session ≤ 16 }
-    requires rule { Keeps (M.device mem.now).cached (object_rule (session - 1)) }
-    requires packed { NoEntryFollowsZero (M.device mem.now).cached (session - 1) }
-    ensures { IfOk result (λ list. list.entries ≡ entries_in (M.device mem.now).cached (session - 1)) }
+    requires rule { Keeps (M.device mem.now).cached (object_rule (own_object session)) }
+    requires packed { NoEntryFollowsZero (M.device mem.now).cached (own_object session) }
+    ensures { IfOk result (λ list. list.entries ≡ entries_in (M.device mem.now).cached (own_object session)) }
 {
-    let object = session - 1;
+    let object = object_of(session);
     let ready = ready(mem, object);
     let mut list = EntryList::with_room(alloc, OWN_ENTRIES + MORE_ENTRIES * ready)?;
     read_run(mem, entry_word(object, 0), OWN_ENTRIES, &mut list);
@@ -57,10 +57,10 @@ fn read_run<M: Memory>(mem: &M, first: Place, count: u32, list: &mut EntryList)
 pub fn free_entries<M: Memory>(mem: &M, session: u8) -> u32
     requires first { 1 ≤ session }
     requires last { session ≤ 16 }
-    requires rule { Keeps (M.device mem.now).cached (object_rule (session - 1)) }
-    ensures { result ≡ free_entries_in (M.device mem.now).cached (session - 1) }
+    requires rule { Keeps (M.device mem.now).cached (object_rule (own_object session)) }
+    ensures { result ≡ free_entries_in (M.device mem.now).cached (own_object session) }
 {
-    let object = session - 1;
+    let object = object_of(session);
     let ready = ready(mem, object);
     let mut free = free_in_run(mem, entry_word(object, 0), OWN_ENTRIES);
     let mut pointer = segment_pointer(object);

@@ -4,7 +4,7 @@ ghost use Rattle.image_layout.specs.Checks.{Keeps};
 ghost use Rattle.image_layout.specs.EntryRules.{object_rule};
 ghost use Rattle.image_layout.specs.Objects.{entry_places, ready_count, segment_pointer_at};
 ghost use Rattle.image_layout.specs.Places.{is_pointer, place_in};
-ghost use Rattle.txn_object.specs.Object.{nth_place};
+ghost use Rattle.txn_object.specs.Object.{own_object, nth_place};
 
 use pm_model::{
     Memory, OBJECT_ENTRIES, Place, SEGMENT_ENTRIES, entry_word, named_place, ready_segments,
@@ -15,6 +15,14 @@ use pm_model::{
 pub(crate) const OWN_ENTRIES: u32 = OBJECT_ENTRIES as u32;
 
 pub(crate) const MORE_ENTRIES: u32 = SEGMENT_ENTRIES as u32;
+
+/// The transaction object of a session, of which the first is session 1.
+pub fn object_of(session: u8) -> u8
+    requires { 1 ≤ session }
+    ensures { result ≡ own_object session }
+{
+    session - 1
+}
 
 /// How many segments an object has ready.
 pub(crate) fn ready<M: Memory>(mem: &M, object: u8) -> u32

@@ -1,33 +1,36 @@
-use Rattle.std.proofs.Common.{◌≡◌, ◌-◌, ◌<◌, ℕ, true, List, sym, subst, get_or, length, arith}
+use Rattle.std.proofs.Common.{◌≡◌, ◌<◌, ℕ, true, List, sym, subst, get_or, length, arith}
 use Rattle.image_layout.specs.Places.{is_pointer}
+use Rattle.image_layout.specs.Checks.{Keeps}
+use Rattle.image_layout.specs.EntryRules.{object_rule}
 use Rattle.image_layout.specs.Objects.{ready_count}
+use Rattle.txn_object.specs.Object.{entries_in, NoEntryFollowsZero}
 use Rattle.txn_object.proofs.Rule.{named, pointer_in, within}
 use Rattle.txn_object.proofs.Walk.{named_next, pointer_next, entries_first, entries_next, entries_last, own_packed, more_packed}
 use Rattle.txn_object.proofs.reading.entries.Goals as goal
 
 pub read_run-requires-clause-packed : goal.read_run-requires-clause-packed
-read_run-requires-clause-packed g c = λ nth lt none. own_packed (g.M.Memory.device c.args.mem.now).cached (c.args.session - 1) c.requires.packed c.entry_word.result.0 nth c.entry_word.ensures lt none
+read_run-requires-clause-packed g c = λ nth lt none. own_packed (g.M.Memory.device c.args.mem.now).cached c.object_of-object.result (subst (λ (o : ℕ). NoEntryFollowsZero (g.M.Memory.device c.args.mem.now).cached o) (sym c.object_of-object.ensures) c.requires.packed) c.entry_word.result.0 nth c.entry_word.ensures lt none
 
 pub loop-segment-init : goal.loop-segment-init
 loop-segment-init g c = record {
   place = c.segment_pointer-pointer.ensures;
   room = omega (arith, c.read_run.ensures.spare, c.in_ok-list.ensures.spare);
-  listed = entries_first (g.M.Memory.device c.args.mem.now).cached (c.args.session - 1) c.entry_word.result.0 c.in_ok-list.list.entries c.read_run.new.list.entries c.entry_word.ensures c.in_ok-list.ensures.entries c.read_run.ensures.entries;
+  listed = entries_first (g.M.Memory.device c.args.mem.now).cached c.object_of-object.result c.entry_word.result.0 c.in_ok-list.list.entries c.read_run.new.list.entries c.entry_word.ensures c.in_ok-list.ensures.entries c.read_run.ensures.entries;
 }
 
 pub named_place-first-requires-clause-at : goal.named_place-first-requires-clause-at
 named_place-first-requires-clause-at g c =
     let words : List ℕ = (g.M.Memory.device c.args.mem.now).cached in
-    let lt : c.loop-segment.segment < ready_count words (c.args.session - 1) = omega (arith, c.loop-segment-test.true, c.ready-ready.ensures.count) in
+    let lt : c.loop-segment.segment < ready_count words c.object_of-object.result = omega (arith, c.loop-segment-test.true, c.ready-ready.ensures.count) in
     let size = (g.met.M.Memory.whole c.args.mem.now).one_or_more in
-    let there = pointer_in words (c.args.session - 1) c.requires.rule (omega (arith, size)) (omega (arith, c.requires.last, c.requires.first)) c.loop-segment.segment (omega (arith, lt)) in
+    let there = pointer_in words c.object_of-object.result (subst (λ (o : ℕ). Keeps (g.M.Memory.device c.args.mem.now).cached (object_rule o)) (sym c.object_of-object.ensures) c.requires.rule) (omega (arith, size)) (omega (arith, c.requires.last, c.requires.first, c.object_of-object.ensures)) c.loop-segment.segment (omega (arith, lt)) in
     subst (λ (at : ℕ). at < length words) (sym c.loop-segment.invariant.place) there
 
 pub named_place-first-requires-clause-pointer : goal.named_place-first-requires-clause-pointer
 named_place-first-requires-clause-pointer g c =
     let words : List ℕ = (g.M.Memory.device c.args.mem.now).cached in
-    let lt : c.loop-segment.segment < ready_count words (c.args.session - 1) = omega (arith, c.loop-segment-test.true, c.ready-ready.ensures.count) in
-    subst (λ (at : ℕ). is_pointer words (get_or words at 0) ≡ true) (sym c.loop-segment.invariant.place) (named words (c.args.session - 1) c.requires.rule c.loop-segment.segment lt).is_one
+    let lt : c.loop-segment.segment < ready_count words c.object_of-object.result = omega (arith, c.loop-segment-test.true, c.ready-ready.ensures.count) in
+    subst (λ (at : ℕ). is_pointer words (get_or words at 0) ≡ true) (sym c.loop-segment.invariant.place) (named words c.object_of-object.result (subst (λ (o : ℕ). Keeps (g.M.Memory.device c.args.mem.now).cached (object_rule o)) (sym c.object_of-object.ensures) c.requires.rule) c.loop-segment.segment lt).is_one
 
 pub segment_entry-requires : goal.segment_entry-requires
 segment_entry-requires g c = omega (arith, c.named_place-first.ensures.in_image, (g.met.M.Memory.whole c.args.mem.now).most)
@@ -35,30 +38,30 @@ segment_entry-requires g c = omega (arith, c.named_place-first.ensures.in_image,
 pub read_run-requires-in-loop-segment-clause-within : goal.read_run-requires-in-loop-segment-clause-within
 read_run-requires-in-loop-segment-clause-within g c =
     let words : List ℕ = (g.M.Memory.device c.args.mem.now).cached in
-    let lt : c.loop-segment.segment < ready_count words (c.args.session - 1) = omega (arith, c.loop-segment-test.true, c.ready-ready.ensures.count) in
-    let is = within words (c.args.session - 1) c.requires.rule (g.met.M.Memory.whole c.args.mem.now).segments c.loop-segment.segment 255 lt (omega arith) in
-    let here = named_next words (c.args.session - 1) c.loop-segment.segment c.loop-segment.pointer.0 c.named_place-first.result.0 c.loop-segment.invariant.place c.named_place-first.ensures.place in
+    let lt : c.loop-segment.segment < ready_count words c.object_of-object.result = omega (arith, c.loop-segment-test.true, c.ready-ready.ensures.count) in
+    let is = within words c.object_of-object.result (subst (λ (o : ℕ). Keeps (g.M.Memory.device c.args.mem.now).cached (object_rule o)) (sym c.object_of-object.ensures) c.requires.rule) (g.met.M.Memory.whole c.args.mem.now).segments c.loop-segment.segment 255 lt (omega arith) in
+    let here = named_next words c.object_of-object.result c.loop-segment.segment c.loop-segment.pointer.0 c.named_place-first.result.0 c.loop-segment.invariant.place c.named_place-first.ensures.place in
     omega (arith, is, here, c.segment_entry.ensures)
 
 pub read_run-requires-in-loop-segment-clause-packed : goal.read_run-requires-in-loop-segment-clause-packed
 read_run-requires-in-loop-segment-clause-packed g c =
     let words : List ℕ = (g.M.Memory.device c.args.mem.now).cached in
-    let lt : c.loop-segment.segment < ready_count words (c.args.session - 1) = omega (arith, c.loop-segment-test.true, c.ready-ready.ensures.count) in
-    let here = named_next words (c.args.session - 1) c.loop-segment.segment c.loop-segment.pointer.0 c.named_place-first.result.0 c.loop-segment.invariant.place c.named_place-first.ensures.place in
-    λ nth below none. more_packed words (c.args.session - 1) c.requires.packed c.loop-segment.segment c.named_place-first.result.0 c.segment_entry.result.0 nth lt here (omega (arith, c.segment_entry.ensures)) below none
+    let lt : c.loop-segment.segment < ready_count words c.object_of-object.result = omega (arith, c.loop-segment-test.true, c.ready-ready.ensures.count) in
+    let here = named_next words c.object_of-object.result c.loop-segment.segment c.loop-segment.pointer.0 c.named_place-first.result.0 c.loop-segment.invariant.place c.named_place-first.ensures.place in
+    λ nth below none. more_packed words c.object_of-object.result (subst (λ (o : ℕ). NoEntryFollowsZero (g.M.Memory.device c.args.mem.now).cached o) (sym c.object_of-object.ensures) c.requires.packed) c.loop-segment.segment c.named_place-first.result.0 c.segment_entry.result.0 nth lt here (omega (arith, c.segment_entry.ensures)) below none
 
 pub loop-segment-preserved : goal.loop-segment-preserved
 loop-segment-preserved g c =
     let words : List ℕ = (g.M.Memory.device c.args.mem.now).cached in
-    let here = named_next words (c.args.session - 1) c.loop-segment.segment c.loop-segment.pointer.0 c.named_place-first.result.0 c.loop-segment.invariant.place c.named_place-first.ensures.place in
+    let here = named_next words c.object_of-object.result c.loop-segment.segment c.loop-segment.pointer.0 c.named_place-first.result.0 c.loop-segment.invariant.place c.named_place-first.ensures.place in
     record {
-      place = pointer_next words (c.args.session - 1) c.loop-segment.segment c.loop-segment.pointer.0 c.named_place-first.result.0 c.loop-segment.invariant.place c.named_place-first.ensures.place;
+      place = pointer_next words c.object_of-object.result c.loop-segment.segment c.loop-segment.pointer.0 c.named_place-first.result.0 c.loop-segment.invariant.place c.named_place-first.ensures.place;
       room = omega (arith, c.loop-segment.invariant.room, c.read_run-in-loop-segment.ensures.spare);
-      listed = entries_next words (c.args.session - 1) c.loop-segment.segment c.named_place-first.result.0 c.segment_entry.result.0 c.loop-segment.list.entries c.read_run-in-loop-segment.new.list.entries
+      listed = entries_next words c.object_of-object.result c.loop-segment.segment c.named_place-first.result.0 c.segment_entry.result.0 c.loop-segment.list.entries c.read_run-in-loop-segment.new.list.entries
           here (omega (arith, c.segment_entry.ensures)) c.loop-segment.invariant.listed c.read_run-in-loop-segment.ensures.entries;
     }
 
 pub returns : goal.returns
 returns g c =
-    entries_last (g.M.Memory.device c.args.mem.now).cached (c.args.session - 1) c.loop-segment.segment c.loop-segment.list.entries
-    (omega (arith, c.loop-segment.auto.segment-end, c.loop-segment-test.false, c.ready-ready.ensures.count)) c.loop-segment.invariant.listed
+    subst (λ (o : ℕ). c.loop-segment.list.entries ≡ entries_in (g.M.Memory.device c.args.mem.now).cached o) c.object_of-object.ensures (entries_last (g.M.Memory.device c.args.mem.now).cached c.object_of-object.result c.loop-segment.segment c.loop-segment.list.entries
+    (omega (arith, c.loop-segment.auto.segment-end, c.loop-segment-test.false, c.ready-ready.ensures.count)) c.loop-segment.invariant.listed)

@@ -1,6 +1,6 @@
 use Rattle.mv_model.specs.declared.reply.Reply.TheVariants as reply
 use Rattle.engine_core.proofs.Answered.{anyhow, begin-takes, no_txn, stands}
-use Rattle.engine_core.proofs.decision.settle_outside.Goals as goal
+use Rattle.engine_core.proofs.decision.decide_outside.Goals as goal
 
 pub returns-in_default-clause-decided : goal.returns-in_default-clause-decided
 returns-in_default-clause-decided g c =

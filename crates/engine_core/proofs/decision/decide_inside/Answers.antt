@@ -12,7 +12,7 @@ use Rattle.engine_core.specs.Served.{insert_of}
 use Rattle.engine_core.specs.declared.transactions.Transactions.{Transactions}
 use Rattle.mv_model.specs.declared.reply.Reply.TheVariants as reply
 use Rattle.engine_core.proofs.Answered.{already, served-insert, stands}
-use Rattle.engine_core.proofs.decision.settle_inside.Goals as goal
+use Rattle.engine_core.proofs.decision.decide_inside.Goals as goal
 
 pub returns-in-Begin-clause-decided : goal.returns-in-Begin-clause-decided
 returns-in-Begin-clause-decided g c =
