@@ -10,6 +10,7 @@ pub mod Firsts
 pub mod HeapChecks
 pub mod Kept
 pub mod LaneChecks
+pub mod LeafLinks
 pub mod LeafWalk
 pub mod LiveChecks
 pub mod NameChecks

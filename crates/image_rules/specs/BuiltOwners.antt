@@ -1,6 +1,6 @@
 -- The owner words of the parts of an image that are built: tables, arrays, the leaves of trees and transaction objects.
--- The texts of dictionaries join them with dictionaries. Where each column's tree is empty, these are all the owner
--- words of the image, and the three rules here are those of the image.
+-- The texts of dictionaries join them with dictionaries. Where trees keep their rule and no column of texts has
+-- a leaf, these are all the owner words of the image, and the three rules here are those of the image.
 use Rattle.std.specs.Prelude.{◌≡◌, ℕ, zero, suc, ◌+◌, ◌-◌, ◌*◌, ◌/◌, Bool, ◌&&◌, ◌==◌, nat_lt, if◌then◌else◌, List, [], ◌∷◌, ◌++◌, length, map, filter, Contains, slice_index}
 use Rattle.std.specs.List.{flat_map}
 use Rattle.std.specs.Int.{bit_at}
@@ -10,10 +10,10 @@ use Rattle.image_layout.specs.Pointer.{pointer_word}
 use Rattle.image_layout.specs.Places.{below, is_pointer_to, place_in}
 use Rattle.image_layout.specs.Records.{codes_header, created_header, dictionary_header, ended_header, first_leaf_at, next_leaf_at}
 use Rattle.image_layout.specs.Blocks.{Block, slot_words, slots_of, slot_at, says_big, live_blocks}
-use Rattle.image_layout.specs.Tables.{table_count, table_block, columns_of, all_columns}
+use Rattle.image_layout.specs.Tables.{table_count, table_block, columns_of}
 use Rattle.image_layout.specs.Owners.{Owner, word_of, array_owners, extension_owners, leaf_owner, table_owner, object_owners, owns_block}
-use Rattle.image_layout.specs.Checks.{Check, check, Rule}
-use Rattle.image_layout.specs.EntryRules.{is_among}
+use Rattle.image_layout.specs.Checks.{Check, check, Rule, Keeps}
+use Rattle.image_layout.specs.EntryRules.{is_among, text_columns, tree_rule}
 use Rattle.image_layout.specs.SoundRules.{distinct_checks}
 use Rattle.image_rules.specs.declared.owner_words.OwnerWord.{OwnerWord}
 
@@ -92,9 +92,10 @@ slot_blocks page class bitmap =
     map (λ slot. record { first = slot_at page class slot; words = slot_words class })
     (filter (λ slot. bit_at bitmap slot == 1) (below (slots_of class)))
 
--- no column has a leaf
-pub record HasEmptyTrees (words : List ℕ) : Type 0 where
-  pub none : (column : ℕ) → Contains (all_columns words) column → slice_index words (first_leaf_at column) ≡ 0
+-- Leaves are reached as rule 11 says, and no column of texts has one.
+pub record HasNoTexts (words : List ℕ) : Type 0 where
+  pub trees : Keeps words tree_rule
+  pub none : (column : ℕ) → Contains (text_columns words) column → slice_index words (first_leaf_at column) ≡ 0
 
 -- an owner word with what it holds
 abbrev pub as_read : List ℕ → Owner → OwnerWord

@@ -10,7 +10,7 @@
 //! - `sound_law` says of the first fault among all rules what it says of an image: that it is sound where there is none,
 //!   and intact where the last rule alone is broken.
 //! - The rules of owner words are tried of tables, arrays, leaves and transaction objects: `built_owners_law` says that
-//!   these are all, where the tree of each column is empty.
+//!   these are all, where trees keep their rule and no column of texts has a leaf.
 //!
 //! State: none.
 //!
