@@ -201,6 +201,10 @@ module _ (words : List ℕ) (tree : TreeState) (leaves : List ℕ) (stands : Sta
         (λ pair each. each_any (λ next. pair.key < next.key) (λ next. next.key ≡ least_key tree.inner.leaves at_leaf.at) (pair.key < wanted) (leaf_pairs words (get_or (indexed words leaves) at_leaf.at 0)) each least.has (λ next less is. omega (arith, less, is, up)))
         (leaf_pairs words (get_or (indexed words leaves) j 0)) pairs_below
 
+    pub earlier_pairs : (j : ℕ) → j < at_leaf.at → Each (λ pair. pair.key < wanted) (leaf_pairs words (get_or (indexed words leaves) j 0))
+    unfolding at
+    earlier_pairs j lt = earlier_leaf j lt
+
     abbrev IsLower : ℕ → Type 0
     IsLower x = Each (λ pair. pair.key < wanted) (leaf_pairs words x)
 

@@ -1,14 +1,13 @@
 -- The pairs of a full leaf, put in the order of their keys.
-use Rattle.std.proofs.Common.{◌≡◌, ⊎_elim, ℕ, zero, suc, ◌+◌, ◌-◌, ◌*◌, ◌%◌, ◌^◌, ◌<◌, ◌≤◌, Bool, true, false, cond, eqb, ltb, List, [], ◌∷◌, ◌++◌, map, get_or, refl, sym, ◌∙◌, ap, ap₂, subst, arith}
+use Rattle.std.proofs.Common.{◌≡◌, ⊎_elim, ℕ, zero, suc, ◌+◌, ◌-◌, ◌*◌, ◌%◌, ◌^◌, ◌<◌, ◌≤◌, Bool, true, false, cond, eqb, List, [], ◌∷◌, ◌++◌, map, get_or, refl, sym, ◌∙◌, ap, ap₂, subst, arith}
 use Rattle.std.specs.Prelude.{All, sum_by}
 use Rattle.std.specs.List.{range_with_len}
 use Rattle.std.specs.List.Sorted.{IsNonDecreasingBy, IsPermutation}
 use Rattle.std.specs.Int.{bit_at}
-use Rattle.std.proofs.lemmas.Bool.{both_ways, cases_eq, cases_lt, eq-eqb, le-ltb, lt-ltb, ltb-true, ne_eqb}
+use Rattle.std.proofs.lemmas.Bool.{both_ways, eq-eqb, eqb-true, ltb-true}
 use Rattle.std.proofs.lemmas.List.{get_or-map, length-map}
 use Rattle.std.proofs.lemmas.List.FromFn.{map-range_with_len_more}
 use Rattle.std.proofs.lemmas.List.Sorted.{All-permutation, IsPermutation-map, sum_by-IsPermutation}
-use Rattle.std.proofs.lemmas.List.Sums.{sum_by-cons}
 use Rattle.std.proofs.lemmas.Nat.Bits.{bit_at_ones}
 use Rattle.fp_leaf.specs.Leaf.{bitmap_of, pair_of, pairs_below}
 use Rattle.fp_leaf.specs.Slots.{is_used}
@@ -20,74 +19,13 @@ use Rattle.shown_state.specs.Mending.{slots_by_key}
 use Rattle.tree_cuts.specs.Lists.{Each, Pairwise}
 use Rattle.tree_cuts.specs.Tree.{KeysDiffer, is_key_below}
 use Rattle.tree_cuts.proofs.Halves.{differing, full-pairs, ordered-is, sum-sorted}
-use Rattle.tree_cuts.proofs.Lists.{each-both, each-map, each-mapped}
+use Rattle.tree_cuts.proofs.Lists.{each-both, each-mapped}
 use Rattle.tree_cuts.proofs.Ordered.{IsSorted, ordered-sorted}
 use Rattle.tree_cuts.proofs.Sorting.{Differ, differ-sym, pairwise-sorted}
 use Rattle.fp_tree.specs.Halving.{ordered_pairs, slot_pair}
 use Rattle.fp_tree.specs.Standing.{IsSoundLeaf}
 use Rattle.fp_tree.proofs.Around.{each_from}
-
--- ── the same items in order are the same list ──
-
-none_counted : (f : ℕ → ℕ) (xs : List ℕ) → Each (λ x. f x ≡ 0) xs → sum_by f xs ≡ 0
-none_counted f [] each = refl
-none_counted f (x ∷ xs) each = let sum = sum_by-cons f x xs in let rest = none_counted f xs each.1 in let here = each.0 in omega (arith, sum, rest, here)
-
-first_counted : (f : ℕ → ℕ) (x : ℕ) (xs : List ℕ) → sum_by f (x ∷ xs) ≡ 0 → f x ≡ 0
-first_counted f x xs none = let sum = sum_by-cons f x xs in omega (arith, sum, none)
-
-abbrev one_if : Bool → ℕ
-one_if b = cond b 1 0
-
--- 1 where only the second holds
-abbrev one_unless : Bool → Bool → ℕ
-one_unless s t = cond s 0 (one_if t)
-
-below_one : (a b : ℕ) → one_if (ltb a b) ≡ 0 → b ≤ a
-below_one a b none = ⊎_elim (λ less. absurd (let one = ap (λ (t : Bool). one_if t) (lt-ltb a b less) in omega (arith, one, none))) (λ from. from) (cases_lt a b)
-
-not_below : (a b : ℕ) → b ≤ a → one_if (ltb a b) ≡ 0
-not_below a b from = ap (λ (t : Bool). one_if t) (le-ltb a b from)
-
-module _ (key : ℕ → ℕ) where
-  abbrev other_with : ℕ → ℕ → ℕ
-  other_with x z = one_unless (eqb z x) (eqb (key z) (key x))
-
-  same_first : (x : ℕ) (xs : List ℕ) (y : ℕ) (ys : List ℕ) → Each (λ t. key x < key t) xs → Each (λ t. key y ≤ key t) ys → ((f : ℕ → ℕ) → sum_by f (x ∷ xs) ≡ sum_by f (y ∷ ys)) → x ≡ y
-  same_first x xs y ys rising order same =
-      let under : key y ≤ key x = below_one (key x) (key y) (first_counted (λ z. one_if (ltb (key z) (key y))) x xs (same (λ z. one_if (ltb (key z) (key y)))
-      ∙ none_counted (λ z. one_if (ltb (key z) (key y))) (y ∷ ys) (not_below (key y) (key y) (omega arith), each-map (λ t. key y ≤ key t) (λ z. one_if (ltb (key z) (key y)) ≡ 0) (λ z from. not_below (key z) (key y) from) ys order))) in
-      let over : key x ≤ key y = below_one (key y) (key x) (first_counted (λ z. one_if (ltb (key z) (key x))) y ys (sym (same (λ z. one_if (ltb (key z) (key x))))
-      ∙ none_counted (λ z. one_if (ltb (key z) (key x))) (x ∷ xs) (not_below (key x) (key x) (omega arith), each-map (λ t. key x < key t) (λ z. one_if (ltb (key z) (key x)) ≡ 0) (λ z from. not_below (key z) (key x) (omega (arith, from))) xs rising))) in
-      let no_other : other_with x y ≡ 0 = first_counted (other_with x) y ys (sym (same (other_with x)) ∙ none_counted (other_with x) (x ∷ xs) (
-        ap (λ (t : Bool). one_unless t (eqb (key x) (key x))) (eq-eqb x x refl),
-        each-map (λ t. key x < key t) (λ z. other_with x z ≡ 0) (λ z above. apart z above) xs rising,
-      )) in
-      ⊎_elim (λ (is : y ≡ x). sym is) (λ not_same. absurd (let one = ap₂ (λ (s t : Bool). one_unless s t) (ne_eqb y x not_same) (eq-eqb (key y) (key x) (omega (arith, under, over))) in omega (arith, one, no_other))) (cases_eq y x)
-    where
-      apart : (z : ℕ) → key x < key z → other_with x z ≡ 0
-      apart z above = ⊎_elim
-          (λ (is : z ≡ x). ap (λ (t : Bool). one_unless t (eqb (key z) (key x))) (eq-eqb z x is))
-          (λ not_same. ap₂ (λ (s t : Bool). one_unless s t) (ne_eqb z x not_same) (ne_eqb (key z) (key x) (λ e. omega (arith, e, above))))
-          (cases_eq z x)
-
-  pub same_order : (xs ys : List ℕ) → Pairwise (λ s t. key s < key t) xs → Pairwise (λ s t. key s ≤ key t) ys → ((f : ℕ → ℕ) → sum_by f xs ≡ sum_by f ys) → xs ≡ ys
-  same_order [] [] rising order same = refl
-  same_order [] (y ∷ ys) rising order same = absurd (let sum = sum_by-cons (λ (z : ℕ). 1) y ys in let all = same (λ (z : ℕ). 1) in omega (arith, sum, all))
-  same_order (x ∷ xs) [] rising order same = absurd (let sum = sum_by-cons (λ (z : ℕ). 1) x xs in let all = same (λ (z : ℕ). 1) in omega (arith, sum, all))
-  same_order (x ∷ xs) (y ∷ ys) rising order same =
-      let first = same_first x xs y ys rising.0 order.0 same in
-      ap₂ (λ (z : ℕ) (zs : List ℕ). z ∷ zs) first (same_order xs ys rising.1 order.1 (λ f.
-      let all = same f in let left = sum_by-cons f x xs in let right = sum_by-cons f y ys in let head = ap f first in omega (arith, all, left, right, head)))
-
--- ── the pairs of a full leaf ──
-
-pairwise_from : {X : Type 0} (n : X → ℕ) (xs : List X) → IsNonDecreasingBy n xs → Pairwise (λ a b. n a ≤ n b) xs
-pairwise_from n [] order = tt
-pairwise_from n (x ∷ xs) order = (
-  each_from (λ b. n x ≤ n b) x xs (λ k lt. order 0 (suc k) x (omega arith) (omega (arith, lt))),
-  pairwise_from n xs (λ i j d le lt. order (suc i) (suc j) d (omega (arith, le)) (omega (arith, lt))),
-)
+use Rattle.fp_tree.proofs.SameOrder.{pairwise_from, same_order}
 
 module _ (words : List ℕ) (leaf : ℕ) (full : get_or words leaf 0 ≡ 2 ^ 48 - 1) where
   abbrev key_of : ℕ → ℕ
@@ -144,7 +82,7 @@ module _ (words : List ℕ) (leaf : ℕ) (full : get_or words leaf 0 ≡ 2 ^ 48 
       let slots : List ℕ = map (λ pair. pair.slot) new in
       let shuffled : IsPermutation (below 48) slots = subst (λ (l : List ℕ). IsPermutation l slots) (ap (map (λ pair. pair.slot)) old_is ∙ slots_back (below 48)) (IsPermutation-map (λ (pair : SlotPair). pair.slot) old new moved) in
       let same : slots_by_key words false leaf ≡ slots =
-      same_order key_of (slots_by_key words false leaf) slots (rising distinct) (keys_in_order new own (pairwise_from (λ (pair : SlotPair). pair.key) new order))
+      same_order eqb eqb-true (λ slot. eq-eqb slot slot refl) key_of (slots_by_key words false leaf) slots (rising distinct) (keys_in_order new own (pairwise_from (λ (pair : SlotPair). pair.key) new order))
       (λ f. ap (sum_by f) (ordered-is words leaf full) ∙ sum-sorted f (λ s t. is_key_below (pair_at words leaf s) (pair_at words leaf t)) (below 48) ∙ sym (sum_by-IsPermutation f (below 48) slots shuffled)) in
       sym (pairs_back new own) ∙ ap (map (slot_pair words leaf)) (sym same)
 
