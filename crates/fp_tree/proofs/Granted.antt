@@ -1,14 +1,14 @@
 -- The leaf that the heap chooses: its allocation writes no word of the tree, and the heap goes on behind the plan.
 use Rattle.std.proofs.Common.{◌≡◌, ◌≢◌, ◌⊎◌, inl, inr, ⊎_elim, ℕ, ◌+◌, ◌%◌, ◌<◌, ◌≤◌, true, not, leb, List, length, get_or, sym, ◌∙◌, ap, subst, arith}
 use Rattle.std.specs.Prelude.{Contains}
-use Rattle.std.proofs.lemmas.Bool.{both_ways, and_from, cases_lt, not_from_false, le-leb}
+use Rattle.std.proofs.lemmas.Bool.{both_ways, and_from, not_from_false, le-leb}
 use Rattle.std.proofs.lemmas.List.{length-append}
 use Rattle.std.proofs.lemmas.Grind.{flat_map-append}
 use Rattle.pm_model.specs.declared.action.Action.{Action}
 use Rattle.pm_model.specs.Plans.{finished, plan_of, part_actions}
 use Rattle.pm_model.proofs.Cuts.{length-finished}
 use Rattle.image_layout.specs.Blocks.{Block, descriptor_of, is_free_page, is_inside, is_small_page, live_blocks, slot_words}
-use Rattle.image_layout.specs.Fixed.{descriptor_at, lane_op_at}
+use Rattle.image_layout.specs.Fixed.{lane_op_at}
 use Rattle.image_layout.specs.Places.{page_at, page_of}
 use Rattle.image_layout.specs.Records.{new_leaf_at}
 use Rattle.image_layout.specs.Trees.{leaf_list}
@@ -36,6 +36,7 @@ use Rattle.tree_cuts.specs.Tree.{AreApart, IsPlaced, IsTree}
 use Rattle.tree_cuts.proofs.Lists.{each-both, each-map}
 use Rattle.fp_tree.specs.Changes.{IsLeafChoice, new_leaf}
 use Rattle.fp_tree.specs.Planned.{MayPlanLeaf, leaf_block}
+use Rattle.fp_tree.proofs.Marks.{IsMark, no_mark, same_marks}
 
 -- ── what the heap chooses for a leaf ──
 
@@ -77,10 +78,6 @@ not_first base (in_run r) may w dest e =
     let low : descriptor_of base r.first ≤ 1 = subst (λ (p : ℕ). descriptor_of base p ≤ 1) (omega arith) (may.are_free 0 may.run.some) in
     let free : is_free_page base r.first ≡ true = and_from (not (is_inside base r.first)) (leb (descriptor_of base r.first) 1) (not_from_false (is_inside base r.first) may.run.not_inside) (le-leb (descriptor_of base r.first) 1 low) in
     both_ways (is_free_page base (page_of w)) dest.not_free (subst (λ (p : ℕ). is_free_page base p ≡ true) here free)
-
--- a word is among these, or not
-apart_or : (first count w : ℕ) → AreApart first count w 1 ⊎ ((first ≤ w) × (w < first + count))
-apart_or first count w = ⊎_elim (λ low. inl (inr (omega (arith, low)))) (λ from. ⊎_elim (λ to. inr (from, to)) (λ high. inl (inl high)) (cases_lt w (first + count))) (cases_lt w first)
 
 module _ (words : List ℕ) (segments : length words % 32768 ≡ 0) (some : 32768 ≤ length words) (column : ℕ) (index : HeapIndex) (lane : ℕ) (may : MayPlanLeaf words index lane column) where
   pub may_call : MayCall words index lane (new_leaf_at column)
@@ -214,36 +211,20 @@ module _ (words : List ℕ) (segments : length words % 32768 ≡ 0) (some : 3276
 
     -- ── the heap behind the whole plan ──
 
-    -- a descriptor, or the bitmap of a small page
-    abbrev IsMark : ℕ → Type 0
-    IsMark w = (w % 32768 < 64) ⊎ ((is_small_page taken (page_of w) ≡ true) × (w % 512 ≡ 0))
-
-    no_mark : (block : Block) → Contains (live_blocks taken) block → (place many : ℕ) → block.first ≤ place → place + many ≤ block.first + block.words → (w : ℕ) → IsMark w → AreApart place many w 1
-    no_mark block live place many from to w mark = ⊎_elim
-        (λ apart. apart)
-        (λ (low, high).
-        let is = (taken_dest block live w (omega (arith, from, low)) (omega (arith, to, high))).owner_is in
-        let off = is.no_descriptor in
-        absurd (⊎_elim (λ header. omega (arith, header, off)) (λ bitmap. is.no_bitmap bitmap.0 bitmap.1) mark))
-        (apart_or place many w)
+    off_marks : (block : Block) → Contains (live_blocks taken) block → (place many : ℕ) → block.first ≤ place → place + many ≤ block.first + block.words → (w : ℕ) → IsMark taken w → AreApart place many w 1
+    off_marks = no_mark taken (ap (λ (n : ℕ). n % 32768) taken_size ∙ segments) (let same = taken_size in omega (arith, same, some)) taken_rules
 
     module _ (after : List ℕ) (after_size : length after ≡ length words)
         (away : (w : ℕ) → AreApart column 40 w 1 → Each (λ leaf. AreApart leaf 104 w 1) leaves → AreApart (new_leaf made.choice) 104 w 1 → get_or after w 0 ≡ get_or taken w 0) where
-      marks : (w : ℕ) → IsMark w → get_or after w 0 ≡ get_or taken w 0
+      marks : (w : ℕ) → IsMark taken w → get_or after w 0 ≡ get_or taken w 0
       marks w mark =
           let from = may.record_in.begins in let to = may.record_in.ends in
-          away w (no_mark may.record_in.block (old_live may.record_in.block may.record_in.live) column 40 from to w mark)
-          (each-map (λ leaf. Contains (live_blocks taken) (leaf_block leaf)) (λ leaf. AreApart leaf 104 w 1) (λ leaf live. no_mark (leaf_block leaf) live leaf 104 (omega arith) (omega arith) w mark) leaves leaves_live)
-          (no_mark (leaf_block (new_leaf made.choice)) leaf_live (new_leaf made.choice) 104 (omega arith) (omega arith) w mark)
+          away w (off_marks may.record_in.block (old_live may.record_in.block may.record_in.live) column 40 from to w mark)
+          (each-map (λ leaf. Contains (live_blocks taken) (leaf_block leaf)) (λ leaf. AreApart leaf 104 w 1) (λ leaf live. off_marks (leaf_block leaf) live leaf 104 (omega arith) (omega arith) w mark) leaves leaves_live)
+          (off_marks (leaf_block (new_leaf made.choice)) leaf_live (new_leaf made.choice) 104 (omega arith) (omega arith) w mark)
 
       same_heap : SameHeap taken after
-      same_heap = record {
-        size = (let same = taken_size in omega (arith, same, after_size));
-        pages = λ page. record {
-          descriptor = marks (descriptor_at page) (inl (omega arith));
-          bitmap = λ small. marks (page_at page) (inr ((let here : page ≡ page_of (page_at page) = omega arith in ap (is_small_page taken) (sym here) ∙ small), omega arith));
-        };
-      }
+      same_heap = same_marks taken after (let same = taken_size in omega (arith, same, after_size)) marks
 
       lane_apart : (place many : ℕ) → 2048 ≤ place → AreApart place many (lane_op_at lane) 1
       lane_apart place many from = let few = may.lane_is in inr (omega (arith, from, few))

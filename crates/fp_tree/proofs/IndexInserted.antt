@@ -23,7 +23,8 @@ use Rattle.tree_cuts.proofs.Lists.{each-append, each-both, each-map, each-parts,
 use Rattle.tree_cuts.proofs.Reading.{LeafIsSame}
 use Rattle.pm_model.specs.declared.action.Action.{Action}
 use Rattle.fp_tree.specs.Changes.{IsBetweenLeaves}
-use Rattle.fp_tree.specs.Inserted.{GoesOnInserted, IsKeyFor}
+use Rattle.fp_tree.specs.Inserted.{GoesOnInserted, IsInserted, IsKeyFor, IsLeadLive, inserted_words}
+use Rattle.fp_tree.proofs.Kept.{may_plan}
 use Rattle.fp_tree.specs.Standing.{IsIndexOf, IsLeastKey, IsSoundLeaf, StandsFor, has_key_up_to, has_pairs, indexed, is_key, last_up_to, leaf_of, or_first}
 use Rattle.fp_tree.specs.TreeState.{TreeState}
 use Rattle.fp_tree.proofs.Around.{each_any, each_at, each_indexed, not_below, ordered_indexed, pairwise_at}
@@ -245,17 +246,22 @@ module _ (words : List ℕ) (tree : TreeState) (before after : List ℕ) (i : In
     index = index;
   }
 
-pub goes_on : (words : List ℕ) (tree : TreeState) (lead : Option Lead) (probe : Probe) (key code : ℕ) (old new : List Action) → IsKeyFor words tree probe key code → GoesOnInserted words tree lead probe key code old new
+pub goes_on : (words : List ℕ) (tree : TreeState) (lead : Option Lead) (probe : Probe) (key code : ℕ) (old new : List Action) → IsKeyFor words tree probe key code → (inserted : IsInserted words tree.column lead probe key code old new) → GoesOnInserted words tree lead inserted.pair
 goes_on words tree lead probe key code old new is inserted =
     let i = inserted.pair in
     let place = inserted.place in
     let (leaves, stands) = is.stands in
     let listed = sym (list_is words tree leaves stands) ∙ place.leaves_are in
     let (wanted, probe_is) = int_probe probe (is.kind ∙ stands.index.kind) in
-    let same : probe ≡ Int i.key = probe_is ∙ ap Int (int_key words wanted key (subst (λ (p : Probe). is_key words p key ≡ true) probe_is is.key_is) ∙ sym inserted.key_is) in (
-      place.before ++ i.leaf ∷ place.after,
-      insertion_stands words tree place.before place.after i (subst (StandsFor words tree) listed stands) inserted.may
-          (subst (λ (k : ℕ). IsBetweenLeaves words k place.before place.after) (sym inserted.key_is) place.between)
-          (place.leaf_is ∙ ap (λ (ls : List ℕ). leaf_of words probe (indexed words ls)) place.leaves_are ∙ ap (λ (p : Probe). leaf_of words p (indexed words (place.before ++ i.leaf ∷ place.after))) same)
-          (subst (λ (n : ℕ). n < 2 ^ 32) (sym inserted.code_is) is.small),
-    )
+    let same : probe ≡ Int i.key = probe_is ∙ ap Int (int_key words wanted key (subst (λ (p : Probe). is_key words p key ≡ true) probe_is is.key_is) ∙ sym inserted.key_is) in
+    let after : StandsFor (inserted_words words i) tree (place.before ++ i.leaf ∷ place.after) =
+    insertion_stands words tree place.before place.after i (subst (StandsFor words tree) listed stands) inserted.may
+    (subst (λ (k : ℕ). IsBetweenLeaves words k place.before place.after) (sym inserted.key_is) place.between)
+    (place.leaf_is ∙ ap (λ (ls : List ℕ). leaf_of words probe (indexed words ls)) place.leaves_are ∙ ap (λ (p : Probe). leaf_of words p (indexed words (place.before ++ i.leaf ∷ place.after))) same)
+    (subst (λ (n : ℕ). n < 2 ^ 32) (sym inserted.code_is) is.small) in
+    record {
+      stands = (place.before ++ i.leaf ∷ place.after, after);
+      may = λ index lane segments some live may.
+          may_plan words segments some tree.column place.before place.after i inserted.may index lane may place.leaves_are
+          (subst (IsLeadLive words) (sym inserted.lead_is) live) (list_is (inserted_words words i) tree (place.before ++ i.leaf ∷ place.after) after);
+    }

@@ -1,5 +1,5 @@
 -- What the planning of an insertion gives.
-use Rattle.std.specs.Prelude.{◌≡◌, ℕ, ◌^◌, ◌<◌, IsTrue, Option, None, Some, List, ◌∷◌, ◌++◌, slice_index}
+use Rattle.std.specs.Prelude.{◌≡◌, ℕ, ◌%◌, ◌^◌, ◌<◌, ◌≤◌, IsTrue, Option, None, Some, List, ◌∷◌, ◌++◌, length, slice_index}
 use Rattle.fp_inner.specs.declared.probe.Probe.{Probe}
 use Rattle.fp_leaf.specs.Slots.{AreUsedBelow}
 use Rattle.image_layout.specs.Trees.{leaf_list}
@@ -8,6 +8,8 @@ use Rattle.pm_model.specs.declared.action.Action.{Action}
 use Rattle.pm_model.specs.Plans.{finished, plan_of}
 use Rattle.tree_cuts.specs.Insertion.{Insertion, Lead, MayInsert, insertion_parts}
 use Rattle.fp_tree.specs.Changes.{IsBetweenLeaves, insertion}
+use Rattle.heap_palloc.specs.Index.{HeapIndex}
+use Rattle.fp_tree.specs.Planned.{IsInBlock, MayPlanLeaf}
 use Rattle.fp_tree.specs.Standing.{Stands, is_key, probe_leaf}
 use Rattle.fp_tree.specs.TreeState.{TreeState}
 use Rattle.fp_inner.specs.Keys.{kind_of}
@@ -48,8 +50,18 @@ pub record IsKeyFor (words : List ℕ) (tree : TreeState) (probe : Probe) (key c
   pub key_is : IsTrue (is_key words probe key)
   pub small : code < 2 ^ 32
 
--- once an insertion was played, the tree stands for the words
-abbrev pub GoesOnInserted : List ℕ → TreeState → Option Lead → Probe → ℕ → ℕ → List Action → List Action → Type 0
-GoesOnInserted words tree lead probe key code old new =
-    (inserted : IsInserted words tree.column lead probe key code old new)
-    → Stands (finished (insertion_parts words inserted.pair) words) tree
+-- the lead, if there is one, goes to a word of a live block
+abbrev pub IsLeadLive : List ℕ → Option Lead → Type 0
+IsLeadLive words None = Unit {0}
+IsLeadLive words (Some lead) = IsInBlock words lead.place 1
+
+-- the words after an insertion
+abbrev pub inserted_words : List ℕ → Insertion → List ℕ
+inserted_words words pair = finished (insertion_parts words pair) words
+
+-- Once an insertion was played, the tree stands for the words. In an image of whole segments a leaf may be planned
+-- then, where it might be before.
+pub record GoesOnInserted (words : List ℕ) (tree : TreeState) (lead : Option Lead) (pair : Insertion) : Type 0 where
+  pub stands : Stands (inserted_words words pair) tree
+  pub may : (index : HeapIndex) (lane : ℕ) → length words % 32768 ≡ 0 → 32768 ≤ length words → IsLeadLive words lead
+      → MayPlanLeaf words index lane tree.column → MayPlanLeaf (inserted_words words pair) index lane tree.column
