@@ -17,10 +17,9 @@ use Rattle.pm_model.proofs.Cuts.{each_cut-map}
 use Rattle.image_layout.proofs.Faults.{Holds}
 use Rattle.pm_model.proofs.PlanLaw.{plan_begins, plan_plays_on, plan_survives_parts}
 use Rattle.engine_core.specs.Stage.{high_at, born_at, ended_at, is_reserved, stage_words}
-use Rattle.engine_core.specs.LogicalState.{logical_state}
 use Rattle.engine_core.specs.ImageRules.{reserved_rule, is_reserved_page, KeepsEntryRules, IsSound}
 use Rattle.engine_core.specs.Opening.{opening_parts, recovered}
-use Rattle.engine_core.specs.Recoverable.{IsRecoverable}
+use Rattle.engine_core.specs.Recoverable.{IsRecoverable, ShowsStill}
 use Rattle.engine_core.proofs.FreshCore.{stage-zero}
 use Rattle.engine_core.proofs.StageImage.{length-stage_words, get_or-stage_words}
 use Rattle.engine_core.proofs.ImageRules.{entered, objects_kept, entries_kept}
@@ -30,10 +29,6 @@ use Rattle.engine_core.proofs.FitsCuts.{fits-now, shows-same}
 use Rattle.engine_core.proofs.FitsSound.{IsClosed, closed-kept, fits-recoverable, recoverable-fits, stamps-none}
 
 -- ── a cut ──
-
--- the image can be opened, and shows what these words do
-abbrev pub ShowsStill : List ℕ → List ℕ → Type 0
-ShowsStill words image = IsRecoverable image × (logical_state image ≡ logical_state words)
 
 module _ (words : List ℕ) (size : 32768 ≤ length words) where
   cuts-recoverable : IsRecoverable words → EachCut (ShowsStill words) (opening_parts words) words

@@ -1,5 +1,5 @@
 -- Which images a power cut may leave, and what is recovered from them.
-use Rattle.std.specs.Prelude.{◌≡◌, ◌⊎◌, ℕ, ◌<◌, ◌≤◌, not, ◌==◌, true, List, ◌++◌, filter, map, slice_index, Option, Some, None, Contains}
+use Rattle.std.specs.Prelude.{◌≡◌, ◌⊎◌, ℕ, ◌<◌, ◌≤◌, not, ◌==◌, true, List, ◌++◌, filter, length, map, slice_index, take, Option, Some, None, Contains}
 use Rattle.mv_model.specs.declared.call.Call.{Call}
 use Rattle.mv_model.specs.declared.call.Call.TheVariants as call
 use Rattle.mv_model.specs.declared.reply.Reply.TheVariants as reply
@@ -8,7 +8,8 @@ use Rattle.mv_model.specs.Answer.{table_named}
 use Rattle.mv_model.specs.History.{after}
 use Rattle.mv_model.specs.State.{State, Table}
 use Rattle.mv_model.specs.View.{next_row_of}
-use Rattle.pm_model.specs.Device.{Device}
+use Rattle.pm_model.specs.Device.{Device, IsCrashImage}
+use Rattle.pm_model.specs.Plans.{at_rest, plan_of, run}
 use Rattle.image_layout.specs.Fixed.{commit_word_at}
 use Rattle.txn_object.specs.Object.{own_object}
 use Rattle.txn_object.specs.declared.entry.EntryKind.TheVariants.{Created, Ended}
@@ -17,13 +18,22 @@ pub use Rattle.stage_view.specs.StageWords.{used_up}
 use Rattle.engine_core.specs.Stage.{high_at, ended_at}
 use Rattle.engine_core.specs.LogicalState.{logical_state, commit_count, next_row}
 use Rattle.engine_core.specs.ImageRules.{KeepsEntryRules, IsSound}
-use Rattle.engine_core.specs.Opening.{recovered}
+use Rattle.engine_core.specs.Opening.{opening_parts, recovered}
 
 -- Opening mends the image, and changes nothing of what it shows.
 pub record IsRecoverable (words : List ℕ) : Type 0 where
   pub entry : KeepsEntryRules words
   pub sound : IsSound (recovered words)
   pub same : logical_state (recovered words) ≡ logical_state words
+
+-- A power cut leaves the image after so many actions of the opening of these words.
+pub record IsCutOpening (words : List ℕ) (k : ℕ) (image : List ℕ) : Type 0 where
+  pub most : k ≤ length (plan_of (opening_parts words))
+  pub left_by : IsCrashImage (run 0 (take k (plan_of (opening_parts words))) (at_rest words)) image
+
+-- the image can be opened, and shows what these words do
+abbrev pub ShowsStill : List ℕ → List ℕ → Type 0
+ShowsStill words image = IsRecoverable image × (logical_state image ≡ logical_state words)
 
 -- ── the same, said word by word and with no opening in it ──
 
@@ -70,6 +80,10 @@ abbrev pub MayRecoverTo : State → List Entry → List Entry → State → Type
 MayRecoverTo opened history undecided state =
     IsRecoveryOf opened history (after opened history) state
     ⊎ IsRecoveryOf opened history (after opened (history ++ undecided)) state
+
+-- the image shows a state that may be recovered, where these were the words at the opening
+abbrev pub MayShow : List ℕ → List Entry → List Entry → List ℕ → Type 0
+MayShow opened history undecided image = MayRecoverTo (logical_state opened) history undecided (logical_state image)
 
 -- the place of the word that decides a call: of a commit, the commit word of its session's object
 abbrev pub deciding_word : Entry → ℕ

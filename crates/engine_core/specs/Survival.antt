@@ -77,6 +77,10 @@ pub record SurvivesCuts (before after : State) (given : Reply) (base : List ℕ)
   pub rows : next_row_of before 0 ≤ next_row_of after 0
   pub most : bound ≤ next_row_of after 0
 
+-- the words that the first half of a commit leaves
+abbrev pub words_decided : ℕ → ℕ → ℕ → List ℕ → List ℕ
+words_decided first count number base = finished (commit_early first count number) base
+
 -- These actions are the plan of the commit of this number, the next one in these words: a first half up to the fence
 -- that makes the commit word durable, and a second half of so many actions. The commit gives out no row more.
 pub record SurvivesInHalves (before after : State) (number late : ℕ)
@@ -93,8 +97,7 @@ pub record SurvivesInHalves (before after : State) (number late : ℕ)
       → EachCut (IsShownUntil before after number words) (commit_early first count number) words
   pub decided : (words : List ℕ) → IsLike (commit_reads first count) before base words
       → IsShown after.commits 0 words (finished (commit_early first count number) words)
-  pub later : (words : List ℕ)
-      → IsLike (commit_reads first count) after (finished (commit_early first count number) base) words
+  pub later : (words : List ℕ) → IsLike (commit_reads first count) after (words_decided first count number base) words
       → EachCut (IsShown after.commits 0 words) (commit_late count number) words
 
 -- What each cut shows while a call takes the first state to the second: the commits of both; but a commit that waits

@@ -1,12 +1,11 @@
 // What opening makes of an image, and of one whose opening was cut short.
 ghost use Rattle.std.specs.Prelude.{◌≡◌, ℕ, ◌*◌, ◌≤◌, ◌↔◌, [], List, length, take, None};
-ghost use Rattle.pm_model.specs.Device.{IsCrashImage};
 ghost use Rattle.pm_model.specs.Plans.{IsPlan, plan_of, run, at_rest};
 ghost use Rattle.engine_core.specs.Stage.{stage_words};
 ghost use Rattle.engine_core.specs.LogicalState.{logical_state, one_empty_table};
 ghost use Rattle.engine_core.specs.ImageRules.{KeepsEntryRules, IsSound};
 ghost use Rattle.engine_core.specs.Opening.{opening_parts, opening_fault, recovered};
-ghost use Rattle.engine_core.specs.Recoverable.{IsRecoverable, Fits};
+ghost use Rattle.engine_core.specs.Recoverable.{Fits, IsCutOpening, IsRecoverable, ShowsStill};
 
 /// The law of opening, on images of one segment or more.
 pub fn opening_law()
@@ -17,10 +16,8 @@ pub fn opening_law()
         run 0 (plan_of (opening_parts words)) (at_rest words) ≡ at_rest (recovered words) }
 
     // A power cut after any of its actions leaves an image that can be opened anew, and shows the same.
-    ensures cut { (words : List ℕ) (k : ℕ) (image : List ℕ) → 32768 ≤ length words → IsRecoverable words
-        → k ≤ length (plan_of (opening_parts words)) →
-        IsCrashImage (run 0 (take k (plan_of (opening_parts words))) (at_rest words)) image →
-        IsRecoverable image × (logical_state image ≡ logical_state words) }
+    ensures cut { (words : List ℕ) (k : ℕ) (image : List ℕ) → 32768 ≤ length words → IsRecoverable words →
+        IsCutOpening words k image → ShowsStill words image }
 
     // The images that it recovers are exactly those that fit together word by word.
     ensures fits { (words : List ℕ) → 32768 ≤ length words → IsRecoverable words ↔ Fits words }

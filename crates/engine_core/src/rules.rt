@@ -214,7 +214,8 @@ fn bad_entry<M: Memory>(memory: &M) -> Option<u32>
     None
 }
 
-fn is_commit(last: u64, stamp: u64) -> bool
+// Whether the stamp is the number of one of the commits up to the last.
+fn is_shown_by(last: u64, stamp: u64) -> bool
     ensures { result ≡ (nat_le 1 stamp && nat_le stamp last) }
 {
     1 <= stamp && stamp <= last
@@ -230,13 +231,16 @@ fn bad_row<M: Memory>(memory: &M, row: u32) -> Option<u32>
     let created = memory.load(born(row));
     let removed = memory.load(ended(row));
     let is_born = if used {
-        created == 0 || created == NO_COMMIT || is_commit(last, created)
+        created == 0 || created == NO_COMMIT || is_shown_by(last, created)
     } else {
         created == 0
     };
     if is_born {
         let is_ended = removed == 0
-            || (used && is_commit(last, created) && is_commit(last, removed) && created <= removed);
+            || (used
+                && is_shown_by(last, created)
+                && is_shown_by(last, removed)
+                && created <= removed);
         unless(is_ended, ended(row))
     } else {
         Some(born(row).0)

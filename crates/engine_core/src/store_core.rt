@@ -11,7 +11,7 @@ ghost use Rattle.image_layout.specs.Checks.{first_fault};
 ghost use Rattle.engine_core.specs.ImageRules.{entry_rules};
 ghost use Rattle.engine_core.specs.Opening.{opening_fault, opening_parts, recovered};
 ghost use Rattle.engine_core.specs.Opened.{IsRefusal};
-ghost use Rattle.engine_core.specs.Recoverable.{IsRecoverable, MayRecoverTo, undecided};
+ghost use Rattle.engine_core.specs.Recoverable.{IsRecoverable, MayShow, undecided};
 ghost use Rattle.engine_core.specs.Served.{is_served};
 ghost use Rattle.engine_core.specs.declared.store_core.OpenError.TheVariants.{NoMemory as OutOfMemory};
 ghost use Rattle.mv_model.specs.Answer.{columns_of, table_named};
@@ -241,9 +241,8 @@ impl<M: Memory> Core<M> {
             (take self.now.played (plan_in (logical_state self.now.opened) (self.now.history ++ self.now.due)))
             (at_rest self.now.opened) }
         ensures recoverable { (image : List ℕ) → IsCrashImage (M.device self.now.memory) image → IsRecoverable image }
-        ensures may_recover_to { (image : List ℕ) → IsCrashImage (M.device self.now.memory) image
-            → MayRecoverTo (logical_state self.now.opened) self.now.history
-            (undecided (M.device self.now.memory) self.now.due) (logical_state image) }
+        ensures may_recover_to { (image : List ℕ) → IsCrashImage (M.device self.now.memory) image →
+            MayShow self.now.opened self.now.history (undecided (M.device self.now.memory) self.now.due) image }
         ensures rests { self.now.in_flight ≡ Nothing
             → (M.device self.now.memory).durable ≡ (M.device self.now.memory).cached }
     {

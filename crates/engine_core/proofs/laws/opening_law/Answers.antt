@@ -8,7 +8,7 @@ pub returns : goal.returns
 returns c = record {
   plan = opening-is-plan;
   reaches = opening-reaches;
-  cut = λ words k image size recoverable le left_by. opening-cut words size recoverable k image le left_by;
+  cut = λ words k image size recoverable cut. opening-cut words size recoverable k image cut.most cut.left_by;
   fits = λ words size. (recoverable-fits words size, fits-recoverable words size);
   faultless = λ words size. (none-accepted words size, λ both. accepted-none words size both.0 both.1);
   accepted = λ words size recoverable. accepted-none words size recoverable.entry recoverable.sound;
