@@ -90,10 +90,20 @@ fn inner_count<M: Memory>(mem: &M, block: Place) -> u8
     requires { HasRecords (M.device mem.now).cached block.0 }
     ensures { result ≡ columns_in_block (M.device mem.now).cached block.0 }
 {
+    mem.load(inner_counter(mem, block)) as u8
+}
+
+// The word that counts them: in version 1 that of all columns.
+fn inner_counter<M: Memory>(mem: &M, block: Place) -> Place
+    requires { HasRecords (M.device mem.now).cached block.0 }
+    ensures count { slice_index (M.device mem.now).cached result.0
+        ≡ columns_in_block (M.device mem.now).cached block.0 }
+    ensures in_image { result.0 < length (M.device mem.now).cached }
+{
     if mem.load(version()) == FIRST_VERSION {
-        return mem.load(column_count(block)) as u8;
+        return column_count(block);
     }
-    mem.load(inner_columns(block)) as u8
+    inner_columns(block)
 }
 
 // An extension of a table, by its number.
