@@ -184,7 +184,7 @@ const MOVED_ROWS: [Change; 10] = [
 
 #[test]
 fn columns_in_extensions_are_tried(rt: HostRuntime) -> Result<(), Fail> {
-    let cases: [(&[Change], Told); 16] = [
+    let cases: [(&[Change], Told); 17] = [
         (&[], None),
         // The bound isn't below the row at which a column begins.
         (&[(2647, 5)], Some((27, 2057))),
@@ -195,6 +195,8 @@ fn columns_in_extensions_are_tried(rt: HostRuntime) -> Result<(), Fail> {
         (&[(2568, EXTENSION)], Some((9, 2568))),
         (&[(2632, EXTENSION)], Some((20, 2632))),
         (&[(2632, EXTENSION + 1)], Some((19, 2632))),
+        // They stand before the chunks of the table's arrays: here also the block of the creators' chunk is too long.
+        (&[(2632, EXTENSION + 1), (6, 18)], Some((19, 2632))),
         (&[(2056, 2), (2647, 0)], None),
         (&[(2056, 2), (2568, 0)], Some((21, 2632))),
         (&[(2560, 7)], Some((21, 2696))),

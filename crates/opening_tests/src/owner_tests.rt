@@ -60,7 +60,7 @@ const SEGMENT: u64 = 4_294_970_376;
 
 #[test]
 fn each_block_has_one_owner(rt: HostRuntime) -> Result<(), Fail> {
-    let cases: [(&[Change], Faults); 18] = [
+    let cases: [(&[Change], Faults); 19] = [
         (&[], [None, None, None]),
         (&[(4, 7)], [Some(520), None, None]),
         (&[(2048, 0)], [Some(520), None, None]),
@@ -92,6 +92,11 @@ fn each_block_has_one_owner(rt: HostRuntime) -> Result<(), Fail> {
             [None, None, None],
         ),
         (&[(2100, LEAF)], [Some(2100), None, None]),
+        // The chunks of the dictionary stand before them.
+        (
+            &[(5, 18), (2121, PAGE_5), (2100, LEAF)],
+            [Some(2121), None, None],
+        ),
         (&[(2048, 7), (2100, LEAF)], [None, None, Some(2312)]),
         (
             &[(2048, 3), (5, 17), (2100, LEAF), (2185, PAGE_5)],
