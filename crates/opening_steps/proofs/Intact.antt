@@ -71,5 +71,5 @@ pub intact_quiet : (words : List ℕ) → IsImage words → IsIntact words → B
 intact_quiet words image intact first = record {
   image = image;
   fits = intact_fits words image intact first;
-  quiet = (none_split words intact, no_table words intact, no_text words intact);
+  quiet = none_split words intact;
 }

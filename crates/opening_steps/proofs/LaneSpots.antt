@@ -73,6 +73,18 @@ same_places old new same = record { size = same.size; each = λ w is. same.each 
         ∙ ap (λ (count : ℕ). says (get_or old version_at 0) count (get_or new (inner_columns_at block) 0)) (same.each block (in_table table 0 lt (omega arith) (omega arith)))
         ∙ ap (says (get_or old version_at 0) (column_count old block)) (same.each (inner_columns_at block) (in_table table 6 lt (omega arith) refl))
 
+-- an unfinished slot is a word into which a lane may be allocating
+pub slot_target : (words : List ℕ) (at : ℕ) → Contains (unfinished_slots words) at → Contains (lane_targets words) at
+slot_target words at slot =
+    let slots = unfinished_slots words in
+    let tables = below (table_count words) in
+    let pointers = flat_map (λ table. flat_map (next_chunk_pointers words) (array_headers words (table_block words table))) tables in
+    let leaves = map new_leaf_at (all_columns words) in
+    let segments = map (pointer_after words) (below 16) in
+    let extensions = flat_map (λ table. next_extension_pointers words (table_block words table)) tables in
+    Contains-append_left (slots ++ pointers ++ leaves ++ segments) extensions at (Contains-append_left (slots ++ pointers ++ leaves) segments at
+    (Contains-append_left (slots ++ pointers) leaves at (Contains-append_left slots pointers at slot)))
+
 -- ── a cut ──
 
 -- what the mending of a lane may have stored
@@ -111,15 +123,7 @@ module _ (old new : List ℕ) (lane : ℕ) (image : IsImage old) (number : lane 
       dest (inside block live low high) = inr (block, live, low, high)
 
   pub slot_spot : (at : ℕ) → Contains (unfinished_slots old) at → IsOwnerPlace old at
-  slot_spot at is =
-      let slots = unfinished_slots old in
-      let tables = below (table_count old) in
-      let pointers = flat_map (λ table. flat_map (next_chunk_pointers old) (array_headers old (table_block old table))) tables in
-      let leaves = map new_leaf_at (all_columns old) in
-      let segments = map (pointer_after old) (below 16) in
-      let extensions = flat_map (λ table. next_extension_pointers old (table_block old table)) tables in
-      target_spot at (Contains-append_left (slots ++ pointers ++ leaves ++ segments) extensions at (Contains-append_left (slots ++ pointers ++ leaves) segments at
-      (Contains-append_left (slots ++ pointers) leaves at (Contains-append_left slots pointers at is))))
+  slot_spot at is = target_spot at (slot_target old at is)
 
   -- the words of lanes but an op
   pub lane_word : (one word : ℕ) → one < 16 → (word ≡ lane_dest_at one) ⊎ (word ≡ lane_block_at one) → get_or new word 0 ≡ get_or old word 0

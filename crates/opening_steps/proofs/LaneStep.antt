@@ -2,24 +2,25 @@
 use Rattle.std.proofs.Common.{◌≡◌, ◌≢◌, ◌⊎◌, inl, inr, ⊎_elim, ℕ, ◌+◌, ◌%◌, ◌<◌, ◌≤◌, true, not, ◌&&◌, eqb, ltb, List, [], ◌∷◌, ◌++◌, length, get_or, map, set, refl, sym, ◌∙◌, ap, subst, arith}
 use Rattle.std.specs.Prelude.{Contains}
 use Rattle.std.specs.List.{flat_map}
-use Rattle.std.proofs.lemmas.Bool.{and_parts, cases_Bool, cases_eq, cond-false, cond-true, eq-eqb, ltb-true, ne_eqb, not-true}
+use Rattle.std.proofs.lemmas.Bool.{and_parts, both_ways, cases_Bool, cases_eq, cond-false, cond-true, eq-eqb, ltb-true, ne_eqb, not-true}
 use Rattle.std.proofs.lemmas.List.{get_or-set_other, get_or-set_same, length-set}
 use Rattle.std.proofs.lemmas.List.Elements.{All-contains, Contains-append_cases, Contains-append_left, Contains-append_right}
-use Rattle.pm_model.specs.Plans.{one_store}
+use Rattle.pm_model.specs.Plans.{EachCut, one_store}
 use Rattle.pm_model.proofs.Cuts.{cut-one_store}
 use Rattle.image_layout.specs.Arrays.{chunk_count}
-use Rattle.image_layout.specs.Blocks.{class_of, is_reserved, is_small_page, slot_in, slots_of}
+use Rattle.image_layout.specs.Blocks.{bitmap_of, class_of, is_reserved, is_small_page, slot_in, slots_of}
 use Rattle.image_layout.specs.Fixed.{descriptor_at, lane_op_at}
 use Rattle.image_layout.specs.Objects.{pointer_after, ready_count}
-use Rattle.image_layout.specs.Owners.{busy_lanes, chunk_owner, extension_owner, firm_owners, lane_block, lane_owner, lane_targets, leaf_owner, new_leaf_owners, next_chunk_pointers, next_extension_pointers, Owner, owner_places, owner_words, segment_owner, unfinished_slots}
+use Rattle.image_layout.specs.Owners.{busy_lanes, chunk_owner, extension_owner, firm_owners, lane_block, lane_owner, lane_targets, leaf_owner, new_leaf_owners, next_chunk_pointers, next_extension_pointers, next_table_slots, next_text_slots, Owner, owner_places, owner_words, segment_owner, unfinished_slots}
 use Rattle.image_layout.specs.Places.{below, is_pointer, page_at, page_of, place_in}
 use Rattle.image_layout.specs.Records.{new_leaf_at}
 use Rattle.image_layout.specs.Tables.{all_columns, array_headers, extension_count, is_first_version, table_block, table_count}
-use Rattle.image_layout.proofs.Members.{below-Contains, Contains-below, Contains-cons, Contains-flat_map, Contains-map, Contains-nil, filter-Contains, map-Contains}
+use Rattle.image_layout.proofs.Members.{below-Contains, Contains-below, Contains-cons, Contains-filter, Contains-flat_map, Contains-map, Contains-nil, filter-Contains, map-Contains}
 use Rattle.image_layout.proofs.OwnersApart.{block_in, chunk_in, extension_in, header_in, named, object_in, segment_in}
 use Rattle.heap_palloc.specs.Calls.{KeepsHeapRules}
 use Rattle.heap_palloc.specs.Lane.{is_big_place, mark_at}
 use Rattle.heap_palloc.specs.Law.{IsOwnerPlace}
+use Rattle.heap_palloc.proofs.Dests.{heap_page}
 use Rattle.heap_palloc.proofs.LiveBlocks.{SameHeap}
 use Rattle.shown_state.specs.Fits.{Fits}
 use Rattle.shown_state.specs.Logs.{LaneFits}
@@ -29,8 +30,9 @@ use Rattle.shown_state.specs.StepLaws.{AreIdle, LanesKeep}
 use Rattle.shown_state.proofs.LaneMending.{at_work, AtWork, block_page, block_pointer, block_slot, has_mark, HasMark, mending-done, mending-freeing, mending-idle, mending-undone, owner_no_mark, pointer_parts}
 use Rattle.opening_steps.specs.QuietImages.{StaysPlain}
 use Rattle.opening_steps.proofs.LanesFit.{cut_still}
-use Rattle.opening_steps.proofs.LaneSpots.{IsLaneWrite, op_kept, target_spot, the_mark, the_op, the_owner}
-use Rattle.opening_steps.proofs.Released.{heap_same, IsBlockPlace, released_goes_on}
+use Rattle.opening_steps.proofs.LaneSpots.{IsLaneWrite, op_kept, slot_spot, spot_kept, target_spot, the_mark, the_op, the_owner}
+use Rattle.opening_steps.proofs.Released.{heap_same, HeapGoesOn, IsBlockPlace, released_goes_on}
+use Rattle.opening_steps.proofs.Shrinks.{block_still, emptied, HeapShrinks, shrinks, shrinks_then}
 use Rattle.opening_steps.proofs.Steps.{plain_as_it_is, plain_by, plain_keeps, StepIsPlain}
 
 -- ── the word that a lane allocates into, where it names a block, is an owner's ──
@@ -220,12 +222,14 @@ module _ (words : List ℕ) (lane : ℕ) (image : IsImage words) (number : lane 
     size = is.size;
     each = each new is;
     busy = busy;
-    heap = heap_same words new rules heap;
+    heap = shrinks words new (λ place. ⊥) is.size (heap_same words new rules heap);
     gone_is = λ place gone. absurd gone;
     disowned = λ place gone. absurd gone;
     done = λ none.
         let named_is = owned none in
         inr (owner, target_owner words owner target (λ null. ⊎_elim (λ same. pointer_some (sym named_is ∙ same ∙ null)) (λ freed. pointer_some (sym named_is ∙ freed.1)) is.owner_is), named_is);
+    logged = λ one busy was. block_still words new (λ place. ⊥) is.size (heap_same words new rules heap) (lane_block words one) was;
+    slot = λ at next some was. block_still words new (λ place. ⊥) is.size (heap_same words new rules heap) (get_or new at 0) was;
   })
     where
       at : (w : ℕ) → (w ≢ mark → get_or new w 0 ≡ get_or words w 0) → get_or new w 0 ≡ get_or words w 0
@@ -240,15 +244,21 @@ module _ (words : List ℕ) (lane : ℕ) (image : IsImage words) (number : lane 
         };
       }
 
+  -- the block's mark is cleared
+  goes_on : (new : List ℕ) → IsWritten new → get_or new mark 0 ≡ clear → HeapGoesOn words new (λ place. place ≡ block)
+  goes_on new is cleared = released_goes_on words new block rules place_is (record { size = is.size; mark = cleared; descriptors = descriptor_kept new is; bitmaps = bitmap_kept new is }) image.segments
+
   released : (new : List ℕ) → IsWritten new → get_or new mark 0 ≡ clear → get_or new owner 0 ≢ pointer → StaysPlain words new
   released new is cleared other = cut_still words new lane (λ place. place ≡ block) image number fits (record {
     size = is.size;
     each = each new is;
     busy = busy;
-    heap = released_goes_on words new block rules place_is (record { size = is.size; mark = cleared; descriptors = descriptor_kept new is; bitmaps = bitmap_kept new is }) image.segments;
+    heap = shrinks words new (λ place. place ≡ block) is.size (goes_on new is cleared);
     gone_is = λ place gone. gone;
     disowned = λ place gone. other;
     done = λ none. inl refl;
+    logged = λ one busy was. block_still words new (λ place. place ≡ block) is.size (goes_on new is cleared) (lane_block words one) was;
+    slot = λ at next some was. block_still words new (λ place. place ≡ block) is.size (goes_on new is cleared) (get_or new at 0) was;
   })
 
   -- ── what is stored ──
@@ -332,28 +342,141 @@ module _ (words : List ℕ) (lane : ℕ) (image : IsImage words) (number : lane 
       )
       (ends_idle half (mark_next words start))
 
-  freeing_step : op ≡ 2 → StepIsPlain (AreIdle (lane + 1)) (lane_mending lane) words
-  freeing_step two =
-      let bare = set words owner 0 in
-      let half = set bare mark clear in
-      let bare_is = owner_next two in
-      let null = get_or-set_same words owner 0 0 spot.in_image in
-      let first = unreleased bare bare_is (get_or-set_other words owner mark 0 0 (λ e. mark_or_owner (sym e)))
+  -- ── a freeing, with its words before the op is cleared ──
+
+  abbrev bare : List ℕ
+  bare = set words (lane_owner words lane) 0
+
+  abbrev half : List ℕ
+  half = set (set words (lane_owner words lane) 0) (mark_at (place_in (lane_block words lane))) (cleared_mark words (place_in (lane_block words lane)))
+
+  record IsHalfFreed : Type 0 where
+    written : IsWritten half
+    null : get_or half owner 0 ≡ 0
+    marked : get_or half mark 0 ≡ clear
+
+  half_freed : op ≡ 2 → IsHalfFreed
+  half_freed two =
+      let is = owner_next two in
+      record {
+        written = mark_next bare is;
+        null = get_or-set_other bare mark owner clear 0 mark_or_owner ∙ get_or-set_same words owner 0 0 spot.in_image;
+        marked = get_or-set_same bare mark clear 0 (let within = has.within in let size = is.size in omega (arith, within, size));
+      }
+
+  -- behind the clearing of the op
+  ended_null : op ≡ 2 → get_or (set half op_at 0) owner 0 ≡ 0
+  ended_null two = get_or-set_other half op_at owner 0 0 (λ f. no_owner (sym f)) ∙ (half_freed two).null
+
+  ended_mark : op ≡ 2 → get_or (set half op_at 0) mark 0 ≡ clear
+  ended_mark two = get_or-set_other half op_at mark 0 0 (λ e. no_mark (sym e)) ∙ (half_freed two).marked
+
+  pub freeing_cuts : op ≡ 2 → EachCut (StaysPlain words) (one_store owner 0 ∷ release_part words block ∷ one_store op_at 0 ∷ []) words
+  freeing_cuts two =
+      let is = half_freed two in
+      let first = unreleased bare (owner_next two) (get_or-set_other words owner mark 0 0 (λ e. mark_or_owner (sym e)))
       (λ none. absurd (busy (sym (get_or-set_other words owner op_at 0 0 no_owner) ∙ none))) in
-      let mark_is = get_or-set_same bare mark clear 0 (let within = has.within in let size = bare_is.size in omega (arith, within, size)) in
-      let half_null = get_or-set_other bare mark owner clear 0 mark_or_owner ∙ null in
-      let second = released half (mark_next bare bare_is) mark_is (λ e. pointer_some (sym e ∙ half_null)) in
-      let third = released (set half op_at 0) (idle_next half (mark_next bare bare_is)) (get_or-set_other half op_at mark 0 0 (λ e. no_mark (sym e)) ∙ mark_is)
-      (λ e. pointer_some (sym e ∙ get_or-set_other half op_at owner 0 0 (λ f. no_owner (sym f)) ∙ half_null)) in
-      plain_by (AreIdle (lane + 1)) (lane_mending lane) words (one_store owner 0 ∷ release_part words block ∷ one_store op_at 0 ∷ []) (mending-freeing words lane two)
-      ((spot.in_image, tt), ((has.within, tt), ((op_inside, tt), tt))) (
+      let second = released half is.written is.marked (λ e. pointer_some (sym e ∙ is.null)) in
+      let third = released (set half op_at 0) (idle_next half is.written) (ended_mark two) (λ e. pointer_some (sym e ∙ ended_null two)) in (
         cut-one_store (StaysPlain words) owner 0 words (plain_as_it_is words fits) first,
         (
           cut-one_store (StaysPlain words) mark clear bare first second,
           (cut-one_store (StaysPlain words) op_at 0 half second third, third),
         ),
       )
-      (ends_idle half (mark_next bare bare_is))
+
+  freeing_step : op ≡ 2 → StepIsPlain (AreIdle (lane + 1)) (lane_mending lane) words
+  freeing_step two =
+      plain_by (AreIdle (lane + 1)) (lane_mending lane) words (one_store owner 0 ∷ release_part words block ∷ one_store op_at 0 ∷ []) (mending-freeing words lane two)
+      ((spot.in_image, tt), ((has.within, tt), ((op_inside, tt), tt)))
+      (freeing_cuts two)
+      (ends_idle half (half_freed two).written)
+
+  -- ── a page whose last block is freed ──
+
+  module _ (two : op ≡ 2) (small : block % 512 ≢ 0) (last : clear ≡ 0) (alone : (one : ℕ) → one < 16 → one ≢ lane → get_or words (lane_op_at one) 0 ≡ 0)
+      (tables : (at : ℕ) → Contains (next_table_slots words) at → (at ≡ owner) ⊎ (get_or words at 0 ≡ 0)) where
+    abbrev ended : List ℕ
+    ended = set half op_at 0
+
+    abbrev page_word : ℕ
+    page_word = descriptor_at (page_of (place_in (lane_block words lane)))
+
+    abbrev emptied_words : List ℕ
+    emptied_words = set (set half op_at 0) (descriptor_at (page_of (place_in (lane_block words lane)))) 0
+
+    is_ended : IsWritten ended
+    is_ended = idle_next half (half_freed two).written
+
+    ended_heap : HeapGoesOn words ended (λ place. place ≡ block)
+    ended_heap = goes_on ended is_ended (ended_mark two)
+
+    page_small : is_small_page words (page_of block) ≡ true
+    page_small =
+        let outer = (and_parts (is_small_page words (page_of block) && ltb (slot_in (class_of words (page_of block)) block) (slots_of (class_of words (page_of block)))) _ (place_is.slot small)).0 in
+        (and_parts (is_small_page words (page_of block)) _ outer).0
+
+    bitmap_none : bitmap_of ended (page_of block) ≡ 0
+    bitmap_none =
+        let is : mark ≡ page_at (page_of block) = cond-false (is_big_place block) (descriptor_at (page_of block)) (page_at (page_of block)) (ne_eqb (block % 512) 0 small) in
+        ap (λ (w : ℕ). get_or ended w 0) (sym is) ∙ ended_mark two ∙ last
+
+    empties : HeapShrinks words emptied_words (λ place. place ≡ block)
+    empties = shrinks_then words ended emptied_words (λ place. place ≡ block) ended_heap
+        (emptied ended (page_of block) ended_heap.rules place_is.unreserved
+        (heap_page ended (page_of block) (let lt = place_is.in_image in let size = is_ended.size in omega (arith, lt, size)) place_is.unreserved)
+        (ended_heap.small (page_of block) ∙ page_small) bitmap_none)
+
+    other_kept : (w : ℕ) → w ≢ page_word → get_or emptied_words w 0 ≡ get_or ended w 0
+    other_kept w apart = get_or-set_other ended page_word w 0 0 apart
+
+    emptied_each : (w : ℕ) → (get_or emptied_words w 0 ≡ get_or words w 0) ⊎ IsLaneWrite words emptied_words lane w
+    emptied_each w = ⊎_elim
+        (λ (here : w ≡ page_word). inr (the_mark (inl (omega (arith, here)))))
+        (λ apart. ⊎_elim (λ same. inl (other_kept w apart ∙ same)) (λ write. inr (by apart write)) (each ended is_ended w))
+        (cases_eq w page_word)
+      where
+        by : w ≢ page_word → IsLaneWrite words ended lane w → IsLaneWrite words emptied_words lane w
+        by apart (the_op at none) = the_op at (other_kept w apart ∙ none)
+        by apart (the_mark which) = the_mark which
+        by apart (the_owner at among none) = the_owner at among (other_kept w apart ∙ none)
+
+    op_apart : (one : ℕ) → one < 16 → lane_op_at one ≢ page_word
+    op_apart one lt e = omega (arith, e, lt)
+
+    owner_null : get_or emptied_words owner 0 ≡ 0
+    owner_null = let far = spot.no_descriptor in other_kept owner (λ e. omega (arith, e, far)) ∙ ended_null two
+
+    ops_null : (one : ℕ) → one < 16 → get_or emptied_words (lane_op_at one) 0 ≡ 0
+    ops_null one lt = ⊎_elim
+        (λ (e : one ≡ lane). ap (λ (l : ℕ). get_or emptied_words (lane_op_at l) 0) e ∙ other_kept op_at (op_apart lane number)
+        ∙ get_or-set_same half op_at 0 0 (let size = (half_freed two).written.size in omega (arith, op_inside, size)))
+        (λ apart. ⊎_elim (λ kept. kept ∙ alone one lt apart) (λ none. none.1) (op_kept words emptied_words lane image number fits empties_size emptied_each one lt))
+        (cases_eq one lane)
+      where
+        empties_size : length emptied_words ≡ length words
+        empties_size = length-set ended page_word 0 ∙ is_ended.size
+
+    pub emptied_still : StaysPlain words emptied_words
+    emptied_still = cut_still words emptied_words lane (λ place. place ≡ block) image number fits (record {
+      size = length-set ended page_word 0 ∙ is_ended.size;
+      each = emptied_each;
+      busy = busy;
+      heap = empties;
+      gone_is = λ place gone. gone;
+      disowned = λ place gone e. pointer_some (sym e ∙ owner_null);
+      done = λ none. inl refl;
+      logged = λ one at_work was.
+          let parts = Contains-filter (λ l. not (eqb (get_or emptied_words (lane_op_at l) 0) 0)) (below 16) one at_work in
+          absurd (both_ways (eqb (get_or emptied_words (lane_op_at one) 0) 0) (not-true (eqb (get_or emptied_words (lane_op_at one) 0) 0) parts.1)
+          (eq-eqb (get_or emptied_words (lane_op_at one) 0) 0 (ops_null one (Contains-below 16 one parts.0))));
+      slot = λ at next some was. absurd (some (⊎_elim
+          (λ own. ap (λ (a : ℕ). get_or emptied_words a 0) own ∙ owner_null)
+          (λ none. ⊎_elim (λ kept. kept ∙ none) (λ zeroed. zeroed.2)
+          (spot_kept words emptied_words lane image number fits (length-set ended page_word 0 ∙ is_ended.size) emptied_each at
+          (slot_spot words words lane image number fits refl (λ w. inl refl) at (Contains-append_left (next_table_slots words) (flat_map (next_text_slots words) (all_columns words)) at next))))
+          (tables at next)));
+    })
 
   busy_step : StepIsPlain (AreIdle (lane + 1)) (lane_mending lane) words
   busy_step = ⊎_elim

@@ -1,24 +1,22 @@
 -- An image that a cut of the mending of a lane leaves fits as the words did, and shows the same.
 use Rattle.std.proofs.Common.{◌≡◌, ◌≢◌, ◌⊎◌, inl, inr, ⊎_elim, ℕ, ◌+◌, ◌-◌, ◌%◌, ◌^◌, ◌<◌, ◌≤◌, Bool, true, false, not, ◌&&◌, ◌||◌, eqb, leb, ltb, List, [], ◌∷◌, length, get_or, map, refl, sym, ◌∙◌, ap, subst, arith}
-use Rattle.std.specs.Prelude.{All, AllPairs, Contains, IsTrue, filter, take}
+use Rattle.std.specs.Prelude.{All, AllPairs, Contains, IsTrue, filter}
 use Rattle.std.specs.List.{flat_map, list_any, range_with_len}
-use Rattle.std.proofs.lemmas.Bool.{and_from, and_parts, both_ways, cases_Bool, cases_eq, cond-false, cond-true, eq-eqb, eqb-true, le-ltb, ne_eqb, not-true, or_cases, or_left, or_right}
-use Rattle.std.proofs.lemmas.List.{take_all}
+use Rattle.std.proofs.lemmas.Bool.{and_from, and_parts, both_ways, cases_Bool, cases_eq, cond-true, eq-eqb, eqb-true, ne_eqb, not-true, or_cases, or_left, or_right}
 use Rattle.std.proofs.lemmas.List.Elements.{All-contains, Contains-append_cases, Contains-append_left, Contains-append_right, Contains-get_or}
 use Rattle.std.proofs.lemmas.List.FromFn.{get_or-range_with_len, length-range_with_len}
-use Rattle.image_layout.specs.Arrays.{capacity, chunk_of, place_of}
-use Rattle.image_layout.specs.Blocks.{Block, class_of, descriptor_of, is_block_pointer, is_given_back, is_inside, is_live, is_reserved, is_slot, is_small_page, live_blocks, says_small, slot_at, slot_in, slots_of}
+use Rattle.image_layout.specs.Blocks.{Block, descriptor_of, is_block_pointer, is_given_back, is_inside, is_live, is_small_page, live_blocks, says_small}
 use Rattle.image_layout.specs.Checks.{Check, check, Keeps}
-use Rattle.image_layout.specs.EntryRules.{is_table_pointer, is_table_slot, table_slot_checks, table_slot_rule, text_columns}
+use Rattle.image_layout.specs.EntryRules.{is_table_slot, table_slot_rule, text_columns}
 use Rattle.image_layout.specs.Fixed.{lane_dest_at, lane_op_at, table_slot_at, version_at}
 use Rattle.image_layout.specs.HeapRules.{is_lane, lane_rule}
-use Rattle.image_layout.specs.Owners.{busy_lanes, firm_owners, is_replaced, is_replaced_in, lane_block, lane_owner, lane_targets, NameApart, names_one, new_leaf_owners, next_table_slots, next_text_slots, Owner, owner_places, owner_words, OwnersAreApart, owns_block, unfinished_slots, word_of}
+use Rattle.image_layout.specs.Owners.{busy_lanes, firm_owners, is_replaced, is_replaced_in, lane_block, lane_owner, lane_targets, NameApart, names_one, new_leaf_owners, next_table_slots, Owner, owner_places, owner_words, OwnersAreApart, owns_block, unfinished_slots, word_of}
 use Rattle.image_layout.specs.Places.{below, is_pointer, page_at, page_count, page_of, place_in}
 use Rattle.image_layout.specs.Pointer.{pointer_word}
-use Rattle.image_layout.specs.Records.{dictionary_header, first_leaf_at, new_leaf_at, next_leaf_at, split_leaf_at}
+use Rattle.image_layout.specs.Records.{first_leaf_at, new_leaf_at, next_leaf_at, split_leaf_at}
 use Rattle.image_layout.specs.SoundRules.{given_back_rule, owner_rule, zero_check}
-use Rattle.image_layout.specs.Tables.{all_columns, is_text, table_count}
-use Rattle.image_layout.specs.Trees.{dictionary_length, is_about_to_link, leaf_list, put_behind, stored_leaves}
+use Rattle.image_layout.specs.Tables.{all_columns, table_count}
+use Rattle.image_layout.specs.Trees.{is_about_to_link, leaf_list, put_behind, stored_leaves}
 use Rattle.image_layout.proofs.Faults.{Holds, mapped_hold}
 use Rattle.image_layout.proofs.Heap.{small_class}
 use Rattle.image_layout.proofs.Members.{below-Contains, Contains-below, Contains-cons, Contains-filter, Contains-flat_map, Contains-here, Contains-map, Contains-nil, Contains-there, filter-Contains, flat_map-Contains, map-Contains}
@@ -35,21 +33,19 @@ use Rattle.shown_state.specs.Logs.{BeginsPages, LaneFits, LogsFit, SlotFits, Spl
 use Rattle.shown_state.specs.OpeningParts.{IsImage}
 use Rattle.shown_state.specs.ReadLaws.{FitsBeside, OwnedAlike, ReadAlike, TreesAlike}
 use Rattle.shown_state.specs.Reads.{in_column, in_head, in_leaf, SameReads}
-use Rattle.shown_state.proofs.Alike.{any_members, filter_alike, flat_map_alike, map_alike}
-use Rattle.shown_state.proofs.Ends.{all_few}
+use Rattle.shown_state.proofs.Alike.{any_members}
 use Rattle.shown_state.proofs.LaneMending.{at_work, AtWork, block_pointer, pointer_parts}
 use Rattle.shown_state.proofs.ReadLaw.{reads_decide, reads_fit}
 use Rattle.shown_state.proofs.SameLeaves.{split_stored, stored_listed}
 use Rattle.shown_state.proofs.SameTreeRules.{pointer_is_same}
-use Rattle.shown_state.proofs.SameTables.{dictionary_is, IsHeader}
-use Rattle.shown_state.proofs.ValuesApart.{chunk_home, in_chunk}
 use Rattle.shown_state.proofs.Walks.{pointers_name_their_place}
-use Rattle.opening_steps.specs.QuietImages.{NothingIsNew, StaysPlain}
+use Rattle.opening_steps.specs.QuietImages.{StaysPlain}
 use Rattle.opening_steps.proofs.Idle.{null_behind}
 use Rattle.opening_steps.proofs.LaneSpots.{block_kept, firm_kept, heap_rules, IsLaneWrite, lane_word, the_mark, the_op, the_owner, op_kept, owner_kept, owner_word_kept, precedes_at, precedes_whole, reads_same, same_places, spot_kept, target_spot}
-use Rattle.opening_steps.proofs.OwnerPlaces.{Contains-take}
-use Rattle.opening_steps.proofs.Released.{HeapGoesOn}
+use Rattle.opening_steps.proofs.NextSlots.{later_slots_same, later_spot, next_slot, slot_still_is}
+use Rattle.opening_steps.proofs.Shrinks.{HeapShrinks}
 use Rattle.opening_steps.proofs.Slots.{null_slot, slots_kept}
+use Rattle.opening_steps.proofs.SplitLogs.{no_split_kept}
 use Rattle.opening_steps.proofs.Structure.{SamePlaces}
 use Rattle.opening_steps.proofs.Versions.{same_version}
 
@@ -68,16 +64,6 @@ any_true {X} test (first ∷ xs) x is hit = ⊎_elim
     (λ later. or_right (test first) (list_any test xs) (any_true test xs x later hit))
     (Contains-cons first x xs is)
 
--- a published word of an array may be an owner's
-published_spot : (words : List ℕ) → IsImage words → (fits : Fits words) → (header index : ℕ) → IsHeader words header → index < capacity words header → IsOwnerPlace words (place_of words header index)
-published_spot words image fits header index is lt =
-    let w = place_of words header index in
-    let home = chunk_home words fits header (chunk_of index) w (in_chunk words fits header index is lt) in
-    let live = home.live in
-    let first = live.first in let size = live.size in let low = home.low in let high = home.high in
-    let rules : KeepsHeapRules words = record { reserved = fits.entry.reserved; descriptors = fits.entry.descriptors; bitmaps = fits.entry.bitmaps } in
-    (dest_place words image.segments image.one_or_more rules w (inr (live.block, live.live, omega (arith, first, low), omega (arith, first, size, high)))).owner_is
-
 -- the new leaf of a split that is about to link is in the list
 fresh_listed : (words : List ℕ) → Fits words → (column : ℕ) → Contains (all_columns words) column → is_about_to_link words column ≡ true → Contains (leaf_list words column) (place_in (get_or words (new_leaf_at column) 0))
 unfolding leaf_list
@@ -95,22 +81,25 @@ fresh_listed words fits column is about =
         both_ways (eqb (get_or words (split_leaf_at column) 0) 0) (not-true (eqb (get_or words (split_leaf_at column) 0) 0) one) (eq-eqb (get_or words (split_leaf_at column) 0) 0 none)
 
 -- What a cut of the mending of a lane at work leaves: a block may be gone, which is the lane's, and then its owner's word
--- doesn't name it; and once the lane is idle the block is gone, or named.
+-- doesn't name it; and once the lane is idle the block is gone, or named. Of the block that a lane still at work has, and of one
+-- that the table slot at the count names, the pointer is a block's still.
 pub record IsLaneCut (old new : List ℕ) (lane : ℕ) (gone : ℕ → Type 0) : Type 0 where
   pub size : length new ≡ length old
   pub each : (w : ℕ) → (get_or new w 0 ≡ get_or old w 0) ⊎ IsLaneWrite old new lane w
   pub busy : get_or old (lane_op_at lane) 0 ≢ 0
-  pub heap : HeapGoesOn old new gone
+  pub heap : HeapShrinks old new gone
   pub gone_is : (place : ℕ) → gone place → place ≡ place_in (lane_block old lane)
   pub disowned : (place : ℕ) → gone place → get_or new (lane_owner old lane) 0 ≢ lane_block old lane
   pub done : get_or new (lane_op_at lane) 0 ≡ 0
       → gone (place_in (lane_block old lane)) ⊎ ((at : ℕ) × Contains (owner_places old) at × (get_or new at 0 ≡ lane_block old lane))
+  pub logged : (one : ℕ) → Contains (busy_lanes new) one → is_block_pointer old (lane_block old one) ≡ true → is_block_pointer new (lane_block old one) ≡ true
+  pub slot : (at : ℕ) → Contains (next_table_slots old) at → get_or new at 0 ≢ 0 → is_block_pointer old (get_or new at 0) ≡ true → is_block_pointer new (get_or new at 0) ≡ true
 
 module _ (old new : List ℕ) (lane : ℕ) (gone : ℕ → Type 0) (image : IsImage old) (number : lane < 16) (fits : Fits old) (cut : IsLaneCut old new lane gone) where
   same : SameReads old new
   same = reads_same old new lane image number fits cut.size cut.each
 
-  abbrev heap : HeapGoesOn old new gone
+  abbrev heap : HeapShrinks old new gone
   heap = cut.heap
 
   read : ReadAlike old new
@@ -188,31 +177,6 @@ module _ (old new : List ℕ) (lane : ℕ) (gone : ℕ → Type 0) (image : IsIm
   pointer_same : (word : ℕ) → is_pointer new word ≡ is_pointer old word
   pointer_same word = pointer_is_same old new cut.size word
 
-  -- small pages have their classes still
-  small_descriptor : (page : ℕ) → is_small_page old page ≡ true → descriptor_of new page ≡ descriptor_of old page
-  small_descriptor page small = ⊎_elim (λ e. e)
-      (λ none.
-      let still = heap.small page ∙ small in
-      let known = small_class (descriptor_of new page) (and_parts (not (is_inside new page)) (says_small (descriptor_of new page)) still).1 in
-      absurd (omega (arith, known, none)))
-      (heap.descriptors page)
-
-  slot_still : (place : ℕ) → is_slot old place ≡ true → is_slot new place ≡ true
-  slot_still place is =
-      let page = page_of place in
-      let says : Bool → ℕ → Bool = λ small class. small && ltb (slot_in class place) (slots_of class) && eqb (slot_at page class (slot_in class place)) place in
-      let small = (and_parts (is_small_page old page) (ltb (slot_in (class_of old page) place) (slots_of (class_of old page))) (and_parts (is_small_page old page && ltb (slot_in (class_of old page) place) (slots_of (class_of old page))) (eqb (slot_at page (class_of old page) (slot_in (class_of old page) place)) place) is).0).0 in
-      ap (λ (b : Bool). says b (class_of new page)) (heap.small page) ∙ ap (λ (d : ℕ). says (is_small_page old page) (d - 2)) (small_descriptor page small) ∙ is
-
-  block_still : (word : ℕ) → is_block_pointer old word ≡ true → is_block_pointer new word ≡ true
-  block_still word is =
-      let place = place_in word in
-      let outer = and_parts (is_pointer old word && not (is_reserved (page_of place))) (eqb (place % 512) 0 || is_slot old place) is in
-      let inner = and_parts (is_pointer old word) (not (is_reserved (page_of place))) outer.0 in
-      and_from (is_pointer new word && not (is_reserved (page_of place))) (eqb (place % 512) 0 || is_slot new place)
-      (and_from (is_pointer new word) (not (is_reserved (page_of place))) (pointer_same word ∙ inner.0) inner.1)
-      (⊎_elim (λ big. or_left (eqb (place % 512) 0) (is_slot new place) big) (λ slot. or_right (eqb (place % 512) 0) (is_slot new place) (slot_still place slot)) (or_cases (eqb (place % 512) 0) (is_slot old place) outer.1))
-
   lane_still : (one : ℕ) → one < 16 → is_lane new one ≡ true
   unfolding lane_rule
   lane_still one lt =
@@ -222,14 +186,18 @@ module _ (old new : List ℕ) (lane : ℕ) (gone : ℕ → Type 0) (image : IsIm
       ⊎_elim
       (λ kept. ⊎_elim
       (λ none. or_left (eqb (op new) 0) _ (ap (λ (n : ℕ). eqb n 0) kept ∙ none))
-      (λ busy.
+      (λ busy. ⊎_elim
+      (λ none. or_left (eqb (op new) 0) _ (eq-eqb (op new) 0 none))
+      (λ some.
       let outer = and_parts (leb (op old) 2 && is_pointer old (dest old)) (is_block_pointer old (lane_block old one)) busy in
       let inner = and_parts (leb (op old) 2) (is_pointer old (dest old)) outer.0 in
+      let at_work = filter-Contains (λ l. not (eqb (get_or new (lane_op_at l) 0) 0)) (below 16) one (below-Contains 16 one lt) (ap not (ne_eqb (op new) 0 some)) in
       or_right (eqb (op new) 0) _
       (and_from (leb (op new) 2 && is_pointer new (dest new)) (is_block_pointer new (lane_block new one))
       (and_from (leb (op new) 2) (is_pointer new (dest new)) (ap (λ (n : ℕ). leb n 2) kept ∙ inner.0)
       (ap (is_pointer new) (lane_word old new lane image number fits cut.size cut.each one (lane_dest_at one) lt (inl refl)) ∙ pointer_same (dest old) ∙ inner.1))
-      (subst (λ (w : ℕ). is_block_pointer new w ≡ true) (sym (own_block one lt)) (block_still (lane_block old one) outer.1))))
+      (subst (λ (w : ℕ). is_block_pointer new w ≡ true) (sym (own_block one lt)) (cut.logged one at_work outer.1))))
+      (cases_eq (op new) 0))
       (or_cases (eqb (op old) 0) _ was))
       (λ idle. or_left (eqb (op new) 0) _ (eq-eqb (op new) 0 idle.1))
       (op_kept old new lane image number fits cut.size cut.each one lt)
@@ -407,7 +375,7 @@ module _ (old new : List ℕ) (lane : ℕ) (gone : ℕ → Type 0) (image : IsIm
   begins_kept : (page : ℕ) → BeginsPages old page → BeginsPages new page
   begins_kept page was = record {
     outside = ⊎_elim (λ is. absurd (both_ways (is_inside old page) was.outside (heap.inside page is))) (λ none. none) (cases_Bool (is_inside new page));
-    no_small = heap.small page ∙ was.no_small;
+    no_small = ⊎_elim (λ is. absurd (both_ways (is_small_page old page) was.no_small (heap.small page is))) (λ none. none) (cases_Bool (is_small_page new page));
     clean = λ k some lt. ⊎_elim
         (λ kept.
         let clean = was.clean k some (omega (arith, lt, kept)) in
@@ -534,58 +502,17 @@ module _ (old new : List ℕ) (lane : ℕ) (gone : ℕ → Type 0) (image : IsIm
   later_kept : Keeps new later_slot_rule
   unfolding later_slot_rule
   later_kept = record {
-    checks = subst (All Holds) (sym (ap (map (zero_check new)) slots_are)) (all_from Holds (map (zero_check new) (flat_map (later_slots old) (text_columns old))) (λ c is.
+    checks = subst (All Holds) (sym (ap (map (zero_check new)) (later_slots_same old new fits same))) (all_from Holds (map (zero_check new) (flat_map (later_slots old) (text_columns old))) (λ c is.
         let (at, among, here) = Contains-map (zero_check new) (flat_map (later_slots old) (text_columns old)) c is in
         subst Holds here (zero_still at among)));
   }
     where
-      codes_of : List ℕ → ℕ → List ℕ
-      codes_of words column = let next = dictionary_length words column + 1 in range_with_len next (capacity words (dictionary_header column) - next)
-
-      text_columns_are : text_columns new ≡ text_columns old
-      text_columns_are = filter_alike (is_text new) (is_text old) (all_columns new) (all_columns old) read.columns (λ column is. read.kinds column is)
-
-      slots_of_column : (column : ℕ) → Contains (all_columns old) column → later_slots new column ≡ later_slots old column
-      slots_of_column column is =
-          let header = dictionary_header column in
-          let headed = dictionary_is old column is in
-          let made : ℕ → ℕ → List ℕ = λ length count. range_with_len (length + 1) (count - (length + 1)) in
-          map_alike (place_of new header) (place_of old header) (codes_of new column) (codes_of old column)
-          (ap (λ (n : ℕ). made n (capacity new header)) (trees.lengths column is)
-          ∙ ap (made (dictionary_length old column)) (read.capacities headed.table header headed.published headed.among))
-          (λ code within. read.places headed.table header code headed.published headed.among (code_under column code within))
-        where
-          code_under : (column code : ℕ) → Contains (codes_of old column) code → code < capacity old (dictionary_header column)
-          code_under column code is =
-              let next = dictionary_length old column + 1 in
-              let count = capacity old (dictionary_header column) - next in
-              let (i, lt, at) = is in
-              let size = length-range_with_len next count in
-              let value = get_or-range_with_len next count i code (omega (arith, lt, size)) in
-              omega (arith, value, at, lt, size)
-
-      slots_are : flat_map (later_slots new) (text_columns new) ≡ flat_map (later_slots old) (text_columns old)
-      slots_are = flat_map_alike (later_slots new) (later_slots old) (text_columns new) (text_columns old) text_columns_are (λ column is. slots_of_column column (Contains-filter (is_text old) (all_columns old) column is).0)
-
       zero_still : (at : ℕ) → Contains (flat_map (later_slots old) (text_columns old)) at → eqb (get_or new at 0) 0 ≡ true
       zero_still at is =
           let rule = fits.later_slots in
           let was : eqb (get_or old at 0) 0 ≡ true = All-contains Holds (later_slot_rule old) (zero_check old at) rule.checks (map-Contains (zero_check old) (flat_map (later_slots old) (text_columns old)) at is) in
-          let (column, among, here) = Contains-flat_map (later_slots old) (text_columns old) at is in
-          let of = (Contains-filter (is_text old) (all_columns old) column among).0 in
-          let (code, within, place) = Contains-map (place_of old (dictionary_header column)) (codes_of old column) at here in
-          let spot = published_spot old image fits (dictionary_header column) code (dictionary_is old column of) (known column code within) in
           ⊎_elim (λ kept. ap (λ (w : ℕ). eqb w 0) kept ∙ was) (λ zeroed. eq-eqb (get_or new at 0) 0 zeroed.2)
-          (spot_kept old new lane image number fits cut.size cut.each at (subst (IsOwnerPlace old) place spot))
-        where
-          known : (column code : ℕ) → Contains (codes_of old column) code → code < capacity old (dictionary_header column)
-          known column code is =
-              let next = dictionary_length old column + 1 in
-              let count = capacity old (dictionary_header column) - next in
-              let (i, lt, at) = is in
-              let size = length-range_with_len next count in
-              let value = get_or-range_with_len next count i code (omega (arith, lt, size)) in
-              omega (arith, value, at, lt, size)
+          (spot_kept old new lane image number fits cut.size cut.each at (later_spot old image fits at is))
 
   given_header : (page : ℕ) → is_given_back old page ≡ true → page < page_count new → page % 64 ≡ 0 → ⊥
   given_header page given lt none =
@@ -637,24 +564,6 @@ module _ (old new : List ℕ) (lane : ℕ) (gone : ℕ → Type 0) (image : IsIm
               let known = small_class (descriptor_of old page) (and_parts (not (is_inside old page)) (says_small (descriptor_of old page)) small).1 in
               omega (arith, one, known)) which)
 
-  slot_still_is : (table : ℕ) → table ≡ table_count old → table < 32 → get_or new (table_slot_at table) 0 ≡ get_or old (table_slot_at table) 0 → is_table_slot new table ≡ true
-  unfolding table_slot_rule
-  slot_still_is table here lt kept =
-      let at = table_slot_at table in
-      let word = get_or old at 0 in
-      let count = read.count in
-      let rule = fits.entry.table_slots in
-      let holds : is_table_slot old table ≡ true = All-contains Holds (table_slot_rule old) (check at (is_table_slot old table)) rule.checks
-      (flat_map-Contains (table_slot_checks old) (below 32) table (check at (is_table_slot old table)) (below-Contains 32 table lt) (Contains-here (check at (is_table_slot old table)) _)) in
-      let was : (eqb word 0 || is_block_pointer old word) ≡ true =
-      sym (cond-true (eqb table (table_count old)) (eqb word 0 || is_block_pointer old word) (eqb word 0) (eq-eqb table (table_count old) here))
-      ∙ sym (cond-false (ltb table (table_count old)) (is_table_pointer old word) _ (le-ltb table (table_count old) (omega (arith, here)))) ∙ holds in
-      let now : (eqb word 0 || is_block_pointer new word) ≡ true =
-      ⊎_elim (λ none. or_left (eqb word 0) (is_block_pointer new word) none) (λ block. or_right (eqb word 0) (is_block_pointer new word) (block_still word block)) (or_cases (eqb word 0) (is_block_pointer old word) was) in
-      cond-false (ltb table (table_count new)) (is_table_pointer new (get_or new at 0)) _ (le-ltb table (table_count new) (omega (arith, here, count)))
-      ∙ cond-true (eqb table (table_count new)) (eqb (get_or new at 0) 0 || is_block_pointer new (get_or new at 0)) (eqb (get_or new at 0) 0) (eq-eqb table (table_count new) (omega (arith, here, count)))
-      ∙ ap (λ (w : ℕ). eqb w 0 || is_block_pointer new w) kept ∙ now
-
   table_slots_kept : Keeps new table_slot_rule
   table_slots_kept = slots_kept old new places (same_version (same.each version_at (in_head (omega arith) (omega arith)))) fits.first (few_tables old fits.entry.table_count) fits.entry.table_slots later
     where
@@ -677,7 +586,7 @@ module _ (old new : List ℕ) (lane : ℕ) (gone : ℕ → Type 0) (image : IsIm
           at_count table here lt =
               let at = table_slot_at table in
               ⊎_elim
-              (λ kept. slot_still_is table here lt kept)
+              (λ kept. slot_still_is old new fits read.count table here lt kept (λ some. cut.slot at (next_slot old table here lt) some))
               (λ zeroed. null_slot old new places table (omega (arith, here)) zeroed.2)
               (spot_kept old new lane image number fits cut.size cut.each at (fixed_spot at (omega arith) (omega (arith, lt))))
 
@@ -699,35 +608,5 @@ module _ (old new : List ℕ) (lane : ℕ) (gone : ℕ → Type 0) (image : IsIm
       rules : KeepsHeapRules new
       rules = heap.rules
 
-  slots_null : (at : ℕ) → Contains (unfinished_slots old) at → get_or old at 0 ≡ 0 → get_or new at 0 ≡ 0
-  slots_null at is none = ⊎_elim (λ kept. kept ∙ none) (λ zeroed. zeroed.2) (word_kept at (slot_among at is))
-
-  nothing_new : NothingIsNew old → NothingIsNew new
-  nothing_new plain =
-      let columns = all_columns old in
-      let texts = flat_map (next_text_slots old) columns in
-      let few : All (λ column. All (λ at. get_or old at 0 ≡ 0) (next_text_slots old column)) columns = subst (All (λ column. All (λ at. get_or old at 0 ≡ 0) (next_text_slots old column))) (take_all 512 columns (all_few old fits)) plain.2 in
-      let null : (at : ℕ) → Contains (unfinished_slots old) at → get_or old at 0 ≡ 0 = λ at is. ⊎_elim
-      (λ table. All-contains (λ a. get_or old a 0 ≡ 0) (next_table_slots old) at plain.1 table)
-      (λ text.
-      let (column, among, here) = Contains-flat_map (next_text_slots old) columns at text in
-      All-contains (λ a. get_or old a 0 ≡ 0) (next_text_slots old column) at (All-contains (λ c. All (λ a. get_or old a 0 ≡ 0) (next_text_slots old c)) columns column few among) here)
-      (Contains-append_cases (next_table_slots old) texts at is) in
-      let now : (at : ℕ) → Contains (unfinished_slots new) at → get_or new at 0 ≡ 0 = λ at is.
-      let was : Contains (unfinished_slots old) at = subst (λ (xs : List ℕ). Contains xs at) owned.unfinished is in slots_null at was (null at was) in
-      let news = all_columns new in (
-        subst (λ (cs : List ℕ). All (λ column. (get_or new (split_leaf_at column) 0 ≡ 0) × (get_or new (new_leaf_at column) 0 ≡ 0)) (take 512 cs)) (sym read.columns)
-            (all_from (λ column. (get_or new (split_leaf_at column) 0 ≡ 0) × (get_or new (new_leaf_at column) 0 ≡ 0)) (take 512 columns) (λ column is.
-            let of = Contains-take 512 columns column is in
-            let was = All-contains (λ c. (get_or old (split_leaf_at c) 0 ≡ 0) × (get_or old (new_leaf_at c) 0 ≡ 0)) (take 512 columns) column plain.0 is in (
-              same.each (split_leaf_at column) (in_column column 5 of (omega arith) refl) ∙ was.0,
-              same.each (new_leaf_at column) (in_column column 6 of (omega arith) refl) ∙ was.1,
-            ))),
-        all_from (λ at. get_or new at 0 ≡ 0) (next_table_slots new) (λ at is. now at (Contains-append_left (next_table_slots new) (flat_map (next_text_slots new) news) at is)),
-        all_from (λ column. All (λ at. get_or new at 0 ≡ 0) (next_text_slots new column)) (take 512 news) (λ column is.
-            all_from (λ at. get_or new at 0 ≡ 0) (next_text_slots new column) (λ at next.
-            now at (Contains-append_right (next_table_slots new) (flat_map (next_text_slots new) news) at (flat_map-Contains (next_text_slots new) news column at (Contains-take 512 news column is) next)))),
-      )
-
   pub cut_still : StaysPlain old new
-  cut_still = record { still = record { fits = reads_fit old new fits same beside; shows = read.state }; plain = nothing_new }
+  cut_still = record { still = record { fits = reads_fit old new fits same beside; shows = read.state }; plain = no_split_kept old new fits same }

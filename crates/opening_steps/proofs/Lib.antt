@@ -2,6 +2,7 @@ pub mod Clearing
 pub mod Closer
 pub mod Closing
 pub mod Fitting
+pub mod FreedSlot
 pub mod Idle
 pub mod Intact
 pub mod Keys
@@ -10,7 +11,9 @@ pub mod LaneStep
 pub mod LanesFit
 pub mod LastNumber
 pub mod LeafHomes
+pub mod NextSlots
 pub mod NoneNew
+pub mod Noted
 pub mod ObjectWords
 pub mod Objects
 pub mod OwnerPlaces
@@ -20,11 +23,15 @@ pub mod ReadRules
 pub mod Released
 pub mod Rows
 pub mod Showing
+pub mod Shrinks
+pub mod SlotStep
 pub mod Slots
+pub mod SplitLogs
 pub mod StampWords
 pub mod Steps
 pub mod Structure
 pub mod Tables
+pub mod TextStep
 pub mod TreeRules
 pub mod Undoing
 pub mod Undone

@@ -1,18 +1,15 @@
--- Where no split is logged and no table and no text is half made, opening keeps what fits, through each power cut in it.
-use Rattle.std.proofs.Common.{◌≡◌, ℕ, zero, suc, ◌+◌, ◌%◌, ◌<◌, ◌≤◌, cond, List, [], ◌∷◌, ◌++◌, length, get_or, map, take, refl, ◌∙◌, ap, subst, arith}
+-- Where no split is logged, opening keeps what fits, through each power cut in it.
+use Rattle.std.proofs.Common.{◌≡◌, ℕ, zero, suc, ◌+◌, ◌%◌, ◌<◌, ◌≤◌, List, [], ◌∷◌, ◌++◌, length, get_or, map, take, refl, ◌∙◌, ap, subst, arith}
 use Rattle.std.specs.Prelude.{Contains}
 use Rattle.std.specs.List.{flat_map, range_with_len}
 use Rattle.std.specs.Option.{option_map_or}
 use Rattle.std.specs.Prelude.{slice_get}
-use Rattle.std.proofs.lemmas.List.Elements.{All-contains}
 use Rattle.pm_model.specs.Device.{IsCrashImage}
 use Rattle.pm_model.specs.Needed.{after_mending, Mending, needed_parts}
 use Rattle.pm_model.specs.Plans.{at_rest, EachCut, finished, Part, run}
 use Rattle.pm_model.proofs.Alone.{length-durable-run}
 use Rattle.pm_model.proofs.Cuts.{each_cut-end, each_cut-map, length-finished}
-use Rattle.image_layout.specs.Blocks.{is_block_pointer}
 use Rattle.image_layout.specs.EntryRules.{KeepsEntryRules}
-use Rattle.image_layout.specs.Owners.{next_table_slots, next_text_slots}
 use Rattle.image_layout.specs.Places.{below}
 use Rattle.image_layout.specs.Records.{new_leaf_at, split_leaf_at}
 use Rattle.image_layout.specs.SoundRules.{IsSound}
@@ -20,26 +17,25 @@ use Rattle.image_layout.specs.Tables.{all_columns}
 use Rattle.image_layout.proofs.Members.{Contains-here, Contains-there}
 use Rattle.shown_state.specs.Fits.{Fits}
 use Rattle.shown_state.specs.LogicalState.{logical_state}
-use Rattle.shown_state.specs.Mending.{at_column, clear_mending, close_mending, free_block, free_table, free_text, lane_mending, last_mending, mendings, recovered, reached_by_opening, slot_mending, split_mending, split_parts, text_mending, undo_mending, version_mending}
+use Rattle.shown_state.specs.Mending.{at_column, clear_mending, close_mending, lane_mending, last_mending, mendings, recovered, reached_by_opening, slot_mending, split_mending, split_parts, text_mending, undo_mending, version_mending}
 use Rattle.shown_state.specs.OpeningParts.{FitsStill, IsImage, opening_parts, opening_plan}
 use Rattle.shown_state.specs.Recoverable.{IsRecoverable}
-use Rattle.shown_state.specs.StepLaws.{AreClear, AreClosed, AreIdle, AreMended, AreUndone, HaveNoNew, OpensStill}
+use Rattle.shown_state.specs.StepLaws.{AreClear, AreClosed, AreIdle, AreJoined, AreMended, AreUndone, HaveNoNew, NoneIsSplit, OpensStill}
 use Rattle.shown_state.proofs.Composed.{each_on_device, Opens, opens-next, opens-none}
 use Rattle.shown_state.proofs.Ends.{end_is_sound}
-use Rattle.opening_steps.specs.QuietImages.{IsQuiet, NothingIsNew, StaysPlain, StaysQuiet}
+use Rattle.opening_steps.specs.QuietImages.{IsQuiet, StaysPlain, StaysQuiet}
 use Rattle.opening_steps.proofs.Clearing.{clears_stay}
 use Rattle.opening_steps.proofs.Closing.{closes_stay}
-use Rattle.opening_steps.proofs.Idle.{column_logs, text_null}
 use Rattle.opening_steps.proofs.LaneStep.{lanes_are_plain}
 use Rattle.opening_steps.proofs.LastNumber.{last_stays}
-use Rattle.opening_steps.proofs.Steps.{as_it_is, step_by, StepStays}
+use Rattle.opening_steps.proofs.SlotStep.{slot_is_plain}
+use Rattle.opening_steps.proofs.SplitLogs.{logs_null}
+use Rattle.opening_steps.proofs.Steps.{plain_as_it_is, plain_by, StepIsPlain, StepStays}
+use Rattle.opening_steps.proofs.TextStep.{text_is_plain}
 use Rattle.opening_steps.proofs.Undoing.{undos_stay}
 use Rattle.opening_steps.proofs.VersionStep.{version_stays}
 
 -- ── steps that have nothing to mend ──
-
-idle_stays : (mending : Mending) (words : List ℕ) → mending words ≡ [] → Fits words → HaveNoNew 512 words → StepStays (HaveNoNew 512) mending words
-idle_stays mending words none fits quiet = step_by (HaveNoNew 512) mending words [] none tt (as_it_is words fits quiet) quiet
 
 none_of : (f : ℕ → List Part) (xs : List ℕ) → ((x : ℕ) → Contains xs x → f x ≡ []) → flat_map f xs ≡ []
 none_of f [] each = refl
@@ -53,26 +49,16 @@ column_none words parts each number = cases (all_columns words) number each
     cases (column ∷ columns) zero each = each column (Contains-here column columns)
     cases (column ∷ columns) (suc number) each = cases columns number (λ c is. each c (Contains-there column c columns is))
 
-module _ (words : List ℕ) (fits : Fits words) (quiet : HaveNoNew 512 words) where
-  split_none : (number : ℕ) → split_mending number words ≡ []
-  split_none number = column_none words (λ w column. split_parts w column (get_or w (split_leaf_at column) 0) (get_or w (new_leaf_at column) 0)) each number
-    where
-      each : (column : ℕ) → Contains (all_columns words) column → split_parts words column (get_or words (split_leaf_at column) 0) (get_or words (new_leaf_at column) 0) ≡ []
-      each column is =
-          let null = column_logs words fits quiet column is in
-          ap (λ (leaf : ℕ). split_parts words column leaf (get_or words (new_leaf_at column) 0)) null.0 ∙ ap (λ (new : ℕ). split_parts words column 0 new) null.1
+split_none : (words : List ℕ) → Fits words → NoneIsSplit 512 words → (number : ℕ) → split_mending number words ≡ []
+split_none words fits none number = column_none words (λ w column. split_parts w column (get_or w (split_leaf_at column) 0) (get_or w (new_leaf_at column) 0)) each number
+  where
+    each : (column : ℕ) → Contains (all_columns words) column → split_parts words column (get_or words (split_leaf_at column) 0) (get_or words (new_leaf_at column) 0) ≡ []
+    each column is =
+        let null = logs_null words fits none column is in
+        ap (λ (leaf : ℕ). split_parts words column leaf (get_or words (new_leaf_at column) 0)) null.0 ∙ ap (λ (new : ℕ). split_parts words column 0 new) null.1
 
-  slot_none : slot_mending words ≡ []
-  slot_none = none_of (free_table words) (next_table_slots words) (λ at is. let e : get_or words at 0 ≡ 0 = null at is in rw e refl)
-    where
-      null : (at : ℕ) → Contains (next_table_slots words) at → get_or words at 0 ≡ 0
-      null at is = All-contains (λ a. get_or words a 0 ≡ 0) (next_table_slots words) at quiet.1 is
-
-  text_none : (number : ℕ) → text_mending number words ≡ []
-  text_none number = column_none words (λ w column. flat_map (free_text w) (next_text_slots w column)) each number
-    where
-      each : (column : ℕ) → Contains (all_columns words) column → flat_map (free_text words) (next_text_slots words column) ≡ []
-      each column is = none_of (free_text words) (next_text_slots words column) (λ at has. ap (λ (word : ℕ). cond (is_block_pointer words word) (free_block words at) []) (text_null words fits quiet column at is has))
+split_is_plain : (words : List ℕ) (number : ℕ) → Fits words → AreJoined 512 words → StepIsPlain (AreJoined 512) (split_mending number) words
+split_is_plain words number fits joined = plain_by (AreJoined 512) (split_mending number) words [] (split_none words fits joined.1 number) tt (plain_as_it_is words fits) joined
 
 -- ── one step after the other ──
 
@@ -83,10 +69,10 @@ module _ (start : List ℕ) where
     pub stays : StaysQuiet start words
     pub has : Q words
 
-  -- what each cut has: it fits and shows the same, and nothing is new in it
+  -- what each cut has: it fits and shows the same, and no split is logged in it
   pub record Has (image : List ℕ) : Type 0 where
     pub still : FitsStill start image
-    pub plain : NothingIsNew image
+    pub plain : NoneIsSplit 512 image
 
   still_after : (words image : List ℕ) → FitsStill start words → FitsStill words image → FitsStill start image
   still_after words image before after = record { fits = after.fits; shows = after.shows ∙ before.shows }
@@ -110,7 +96,7 @@ module _ (start : List ℕ) where
       let before = so_far.still in
       let kept = stays words now.image before.fits so_far.quiet now.has in
       let parts = needed_parts words (mending words) in
-      let cuts = each_cut-map (StaysQuiet words) Has parts words (λ image is. let quiet = is.quiet in record { still = still_after words image before is.still; plain = (quiet.0.1, quiet.1, quiet.2) }) kept.cuts in
+      let cuts = each_cut-map (StaysQuiet words) Has parts words (λ image is. let quiet = is.quiet in record { still = still_after words image before is.still; plain = quiet.0.1 }) kept.cuts in
       let last = each_cut-end (StaysQuiet words) parts words kept.cuts in
       opens-next Has AreMended mending later words entry_of kept.plan cuts
       (rest (after_mending mending words) (record {
@@ -148,7 +134,7 @@ module _ (start : List ℕ) where
 
   version_end : Ends (version_mending ∷ []) (AreClear 16)
   version_end = step (AreClear 16) AreMended version_mending [] (λ w image fits quiet has. version_stays w image fits has)
-      (λ w done. let stays = done.stays in let quiet = stays.quiet in opens-none Has AreMended w (record { still = stays.still; plain = (quiet.0.1, quiet.1, quiet.2) }) done.has)
+      (λ w done. let stays = done.stays in let quiet = stays.quiet in opens-none Has AreMended w (record { still = stays.still; plain = quiet.0.1 }) done.has)
 
   clear_end : Ends clears (AreClear 0)
   clear_end = round AreClear clear_mending (version_mending ∷ []) 16 (λ n w lt image fits quiet has. clears_stay w n image lt fits has) version_end 0 16 refl
@@ -161,38 +147,53 @@ module _ (start : List ℕ) where
   undo_end = round AreUndone undo_mending closes 16 (λ n w lt image fits quiet has. undos_stay w n image lt fits has)
       (λ w done. close_end w (now_so (AreUndone 16) (AreClosed 0) w (λ has. (has, λ object none. absurd (omega (arith, none)))) done)) 0 16 refl
 
-  abbrev Quiet : ℕ → List ℕ → Type 0
-  Quiet n = HaveNoNew 512
+  last_end : Ends (last_mending ∷ undos) (HaveNoNew 512)
+  last_end = step (HaveNoNew 512) (AreUndone 0) last_mending undos (λ w image fits quiet has. last_stays w image fits quiet) undo_end
 
-  text_end : Ends texts (HaveNoNew 512)
-  text_end = round Quiet text_mending (last_mending ∷ undos) 512 (λ n w lt image fits quiet has. idle_stays (text_mending n) w (text_none w fits quiet n) fits quiet)
-      (step (HaveNoNew 512) (AreUndone 0) last_mending undos (λ w image fits quiet has. last_stays w image fits quiet) undo_end) 0 512 refl
+  -- ── the steps before them, in which lanes may be at work, and tables and texts half made ──
 
-  split_end : Ends splits (HaveNoNew 512)
-  split_end = round Quiet split_mending (slot_mending ∷ texts) 512 (λ n w lt image fits quiet has. idle_stays (split_mending n) w (split_none w fits quiet n) fits quiet)
-      (step (HaveNoNew 512) (HaveNoNew 512) slot_mending texts (λ w image fits quiet has. idle_stays slot_mending w (slot_none w fits quiet) fits quiet) text_end) 0 512 refl
-
-  -- lanes at work are mended one after the other
-  record LanesNow (lane : ℕ) (words : List ℕ) : Type 0 where
+  record EarlyNow (Q : List ℕ → Type 0) (words : List ℕ) : Type 0 where
     pub image : IsImage words
     pub has : Has words
-    pub idle : AreIdle lane words
+    pub so : Q words
 
-  lane_ends : (first count : ℕ) → first + count ≡ 16 → (words : List ℕ) → LanesNow first words → Opens Has AreMended (map lane_mending (range_with_len first count) ++ splits) words
-  lane_ends first zero is words now =
-      let has = now.has in
-      let plain = has.plain in
-      let quiet : HaveNoNew 512 words = ((subst (λ (k : ℕ). AreIdle k words) (omega (arith, is)) now.idle, plain.0), plain.1, plain.2) in
-      split_end words (record { image = now.image; stays = record { still = has.still; quiet = quiet }; has = quiet })
-  lane_ends first (suc count) is words now =
+  abbrev EarlyEnds : List Mending → (List ℕ → Type 0) → Type 0
+  EarlyEnds list Q = (words : List ℕ) → EarlyNow Q words → Opens Has AreMended list words
+
+  early_step : (Q S : List ℕ → Type 0) (mending : Mending) (later : List Mending)
+      → ((words : List ℕ) → IsImage words → Fits words → Q words → StepIsPlain S mending words) → EarlyEnds later S → EarlyEnds (mending ∷ later) Q
+  early_step Q S mending later plain rest words now =
       let has = now.has in
       let before = has.still in
-      let kept = lanes_are_plain words first now.image (omega (arith, is)) before.fits now.idle in
-      let parts = needed_parts words (lane_mending first words) in
+      let kept = plain words now.image before.fits now.so in
+      let parts = needed_parts words (mending words) in
       let cuts = each_cut-map (StaysPlain words) Has parts words (λ image stays. record { still = still_after words image before stays.still; plain = stays.plain has.plain }) kept.cuts in
-      opens-next Has AreMended (lane_mending first) (map lane_mending (range_with_len (first + 1) count) ++ splits) words entry_of kept.plan cuts
-      (lane_ends (first + 1) count (omega (arith, is)) (after_mending (lane_mending first) words)
-      (record { image = image_after words parts now.image; has = each_cut-end Has parts words cuts; idle = kept.goes_on }))
+      opens-next Has AreMended mending later words entry_of kept.plan cuts
+      (rest (after_mending mending words) (record { image = image_after words parts now.image; has = each_cut-end Has parts words cuts; so = kept.goes_on }))
+
+  early_round : (Q : ℕ → List ℕ → Type 0) (mending : ℕ → Mending) (later : List Mending) (all : ℕ)
+      → ((n : ℕ) (words : List ℕ) → n < all → IsImage words → Fits words → Q n words → StepIsPlain (Q (n + 1)) (mending n) words) → EarlyEnds later (Q all)
+      → (first count : ℕ) → first + count ≡ all → EarlyEnds (map mending (range_with_len first count) ++ later) (Q first)
+  early_round Q mending later all plain rest first zero is words now = rest words (subst (λ (k : ℕ). EarlyNow (Q k) words) (omega (arith, is)) now)
+  early_round Q mending later all plain rest first (suc count) is words now =
+      early_step (Q first) (Q (first + 1)) (mending first) (map mending (range_with_len (first + 1) count) ++ later)
+      (λ w image fits so. plain first w (omega (arith, is)) image fits so)
+      (λ next then. early_round Q mending later all plain rest (first + 1) count (omega (arith, is)) next then) words now
+
+  text_end : EarlyEnds texts (HaveNoNew 0)
+  text_end = early_round HaveNoNew text_mending (last_mending ∷ undos) 512 (λ n w lt image fits clear. text_is_plain w n image fits clear)
+      (λ w now. let has = now.has in last_end w (record { image = now.image; stays = record { still = has.still; quiet = now.so }; has = now.so })) 0 512 refl
+
+  abbrev Joined : ℕ → List ℕ → Type 0
+  Joined n = AreJoined 512
+
+  split_end : EarlyEnds splits (AreJoined 512)
+  split_end = early_round Joined split_mending (slot_mending ∷ texts) 512 (λ n w lt image fits joined. split_is_plain w n fits joined)
+      (early_step (AreJoined 512) (HaveNoNew 0) slot_mending texts (λ w image fits joined. slot_is_plain w image fits joined) text_end) 0 512 refl
+
+  lane_end : EarlyEnds (map lane_mending (below 16) ++ splits) (AreIdle 0)
+  lane_end = early_round AreIdle lane_mending splits 16 (λ n w lt image fits idle. lanes_are_plain w n image lt fits idle)
+      (λ w now. let has = now.has in split_end w (record { image = now.image; has = now.has; so = (now.so, has.plain) })) 0 16 refl
 
   mendings_are : map lane_mending (below 16) ++ splits ≡ mendings
   mendings_are = refl
@@ -202,7 +203,7 @@ module _ (start : List ℕ) where
 module _ (words : List ℕ) (is : IsQuiet words) where
   all_opens : Opens (Has words) AreMended mendings words
   all_opens = subst (λ (list : List Mending). Opens (Has words) AreMended list words) (mendings_are words)
-      (lane_ends words 0 16 refl words (record { image = is.image; has = record { still = record { fits = is.fits; shows = refl }; plain = is.quiet }; idle = λ lane none. absurd (omega (arith, none)) }))
+      (lane_end words words (record { image = is.image; has = record { still = record { fits = is.fits; shows = refl }; plain = is.quiet }; so = λ lane none. absurd (omega (arith, none)) }))
 
   pub quiet_cuts : EachCut (Has words) (opening_parts words) words
   unfolding opening_parts

@@ -15,6 +15,8 @@ ghost use Rattle.shown_state.specs.StepLaws.{
   LanesKeep,
   LastKeeps,
   OpensStill,
+  SlotKeeps,
+  TextsKeep,
   UndosKeep,
   VersionKeeps,
 };
@@ -25,6 +27,15 @@ ghost use Rattle.opening_steps.specs.QuietImages.{IsQuiet};
 /// ended.
 pub fn lanes_law()
     ensures { LanesKeep }
+{}
+
+/// A law for proofs: so does each cut of the freeing of a block of which no structure was made: that of a table that was
+/// being created, which the table slot at the table count names, and that of a text that was being added, which the
+/// dictionary slot at a column's length names. Lane 0 notes the block; then its slot is null, and its mark is cleared;
+/// and a small page without a block is free. Behind it the slot is null.
+pub fn slots_law()
+    ensures table { SlotKeeps }
+    ensures texts { TextsKeep }
 {}
 
 /// A law for proofs: so does each cut of the storing of the last commit's number; behind it the last number is that of
@@ -56,10 +67,10 @@ pub fn version_step_law()
         → StepKeeps AreMended version_mending words }
 {}
 
-/// The law of opening an image that fits together, where no split is logged, and no table and no text is half made;
-/// lanes and transactions may be in any state that fits, and the version either one. Opening such an image goes on to
-/// its end, where it is sound and shows the same. A power cut after any of the actions leaves such an image again,
-/// which shows the same: so opening may be cut any number of times. An intact image is such an image.
+/// The law of opening an image that fits together, where no split is logged; lanes, transactions, and a table or texts
+/// that are half made may be in any state that fits, and the version either one. Opening such an image goes on to its
+/// end, where it is sound and shows the same. A power cut after any of the actions leaves such an image again, which
+/// shows the same: so opening may be cut any number of times. An intact image is such an image.
 pub fn quiet_opening_law()
     ensures opens { (words : List ℕ) → IsQuiet words → OpensStill words }
     ensures cuts { (words : List ℕ) (k : ℕ) (image : List ℕ) → IsQuiet words → k ≤ length (opening_plan words)
