@@ -1,17 +1,14 @@
 -- Commands that were read have 1 to 128 segments; words that were refused are no command.
-use Rattle.std.proofs.Common.{◌≡◌, ◌⊎◌, inl, inr, ◌≤◌, ◌&&◌, Bool, true, false, cond, ℕ, List, [], ◌∷◌, Option, None, Some, refl, ap, subst, arith, true≢false, leb-true}
+use Rattle.std.proofs.Common.{inl, inr, ◌≤◌, ◌&&◌, Bool, true, false, cond, ℕ, List, [], ◌∷◌, Option, None, Some, subst, arith, leb-true}
 use Rattle.std.specs.Prelude.{codes, nat_le, IfOk, IfSome, Ok, Err, Result, option_and_then, option_map}
 use Rattle.clap.proofs.WalkLemmas.{both}
-use Rattle.pm_model.specs.declared.action.Keep.{Keep}
 use Rattle.pm_model.specs.declared.action.Keep.TheVariants as keep
 use Rattle.sf_value.specs.Number.{number_of}
 use Rattle.command_line.specs.declared.arguments.WordsError.{WordsError}
-use Rattle.command_line.specs.declared.arguments.WordsError.TheVariants as error
 use Rattle.command_line.specs.declared.words.Command.{Command}
 use Rattle.command_line.specs.declared.words.Command.TheVariants.{Run}
-use Rattle.command_line.specs.declared.words.Job.{Job}
 use Rattle.command_line.specs.declared.words.Job.TheVariants as job
-use Rattle.command_line.specs.Parts.{Part, given, parts_of, path}
+use Rattle.command_line.specs.Parts.{given, parts_of, path}
 use Rattle.command_line.specs.Words.{HasSegments, ReadsWords, at_most_once, command_of, cut_of, format_command, format_options, format_with, from_1_to_128, is_word, job_in, keep_of, paths_of_format, paths_of_script, script_command, script_options, script_with, segments_of}
 use Rattle.command_line.proofs.Rules.{cases}
 

@@ -1,6 +1,7 @@
 -- The words of the command line.
-use Rattle.std.specs.Prelude.{ℕ, take, drop, length, ◌≡◌, ◌&&◌, ◌^◌, ◌≤◌, nat_eq, nat_le, nat_lt, Bool, List, [], ◌∷◌, codes, Option, None, Some, option_map, option_and_then, unwrap_or, Result, Ok, Err, if◌then◌else◌, map}
+use Rattle.std.specs.Prelude.{ℕ, take, drop, length, ◌≡◌, ◌&&◌, ◌||◌, true, ◌^◌, ◌≤◌, nat_eq, nat_le, nat_lt, Bool, List, [], ◌∷◌, codes, Option, None, Some, option_map, option_and_then, unwrap_or, Result, Ok, Err, if◌then◌else◌, map}
 use Rattle.std.specs.Borrow.{Bor}
+use Rattle.std.specs.List.{list_all}
 use Rattle.std.specs.Cmp.Lexicographic.{pointwise}
 use Rattle.pm_model.specs.declared.action.Keep.{Keep}
 use Rattle.pm_model.specs.declared.action.Keep.TheVariants as keep
@@ -12,7 +13,7 @@ use Rattle.command_line.specs.declared.words.Command.TheVariants.{Run}
 use Rattle.command_line.specs.declared.words.Job.{Job}
 use Rattle.command_line.specs.declared.words.Job.TheVariants as job
 use Rattle.command_line.specs.declared.words.Paths.{Paths}
-use Rattle.command_line.specs.Parts.{Part, given, parts_of, path}
+use Rattle.command_line.specs.Parts.{given, may_stand, parts_of, path}
 
 -- the word is this one
 abbrev pub is_word : List ℕ → List ℕ → Bool
@@ -106,6 +107,16 @@ command_of (name ∷ words) =
     if is_word name (codes "format") then format_command words
     else if is_word name (codes "script") then script_command words
     else None
+
+-- the names of commands
+abbrev pub is_command_name : List ℕ → Bool
+is_command_name word = is_word word (codes "format") || is_word word (codes "script")
+
+-- Memory may run out at these words: the first is the name of a command, and each other one may stand. Before both are
+-- known no memory is asked for.
+abbrev pub MayLackMemory : List (List ℕ) → Type 0
+MayLackMemory [] = ⊥
+MayLackMemory (name ∷ words) = (is_command_name name ≡ true) × (list_all may_stand words ≡ true)
 
 -- the job of a command
 abbrev pub job_in : Command → Job

@@ -1,4 +1,4 @@
-ghost use Rattle.std.specs.Prelude.{◌≡◌, map, option_map, string_bytes};
+ghost use Rattle.std.specs.Prelude.{◌≡◌, IsErrOf, true, map, option_map, string_bytes};
 ghost use Rattle.std.specs.List.{list_all};
 ghost use Rattle.command_line.specs.Outcome.{Reads, values_in};
 ghost use Rattle.command_line.specs.Parts.{has_minus, may_stand, parts_of, path};
@@ -68,13 +68,15 @@ fn may_all_stand(words: &[String]) -> bool
 }
 
 /// The paths of the words, and the values of options with these names: `--name=value`, or `--name` and the next word,
-/// anywhere. Every other word is a path. An option that isn't named, or has no value, is wrong usage.
+/// anywhere. Every other word is a path. An option that isn't named, or has no value, is wrong usage. Memory
+/// is asked for where each word may stand.
 pub(crate) fn read_arguments<'a>(
     alloc: Global,
     options: &'a [&'a str],
     words: &'a [String],
 ) -> Result<Arguments<'a>, WordsError>
-    ensures { Reads result (parts_of (map (λ name. name.now) options.entry.now) (map string_bytes words.entry.now)) }
+    ensures read { Reads result (parts_of (map (λ name. name.now) options.entry.now) (map string_bytes words.entry.now)) }
+    ensures memory { IsErrOf result WordsError.NoMemory → list_all may_stand (map string_bytes words.entry.now) ≡ true }
 {
     if !may_all_stand(words) {
         return Err(WordsError::Usage);

@@ -1,6 +1,8 @@
-ghost use Rattle.std.specs.Prelude.{◌≡◌, codes, map, string_bytes, None, Some, IfOk, option_and_then, option_map};
+ghost use Rattle.std.specs.List.{list_all};
+ghost use Rattle.std.specs.Prelude.{◌≡◌, codes, map, string_bytes, true, None, Some, IfOk, IsErrOf, option_and_then, option_map};
 ghost use Rattle.pm_model.specs.declared.action.Keep.TheVariants as keep;
-ghost use Rattle.command_line.specs.Words.{after_words, at_most_once, command_of, cut_of, format_command, format_with, from_1_to_128, HasSegments, job_in, job_of, keep_of, option_number, ReadsWords, script_command, script_with, segments_of, word_of, words_in};
+ghost use Rattle.command_line.specs.Parts.{may_stand};
+ghost use Rattle.command_line.specs.Words.{MayLackMemory, after_words, at_most_once, command_of, cut_of, format_command, format_with, from_1_to_128, HasSegments, job_in, job_of, keep_of, option_number, ReadsWords, script_command, script_with, segments_of, word_of, words_in};
 
 use crate::arguments::{WordsError, read_arguments};
 use mv_model::{NoMemory, Text};
@@ -184,14 +186,16 @@ fn script_of(
 }
 
 fn read_format(alloc: Global, words: &[String]) -> Result<Command, WordsError>
-    ensures { ReadsWords result (format_command (map string_bytes words.now)) }
+    ensures read { ReadsWords result (format_command (map string_bytes words.now)) }
+    ensures memory { IsErrOf result WordsError.NoMemory → list_all may_stand (map string_bytes words.now) ≡ true }
 {
     let arguments = read_arguments(alloc, FORMAT_OPTIONS.as_slice(), words)?;
     format_of(alloc, arguments.paths(), arguments.values("segments"))
 }
 
 fn read_script(alloc: Global, words: &[String]) -> Result<Command, WordsError>
-    ensures { ReadsWords result (script_command (map string_bytes words.now)) }
+    ensures read { ReadsWords result (script_command (map string_bytes words.now)) }
+    ensures memory { IsErrOf result WordsError.NoMemory → list_all may_stand (map string_bytes words.now) ≡ true }
 {
     let arguments = read_arguments(alloc, SCRIPT_OPTIONS.as_slice(), words)?;
     script_of(
@@ -203,7 +207,8 @@ fn read_script(alloc: Global, words: &[String]) -> Result<Command, WordsError>
 }
 
 fn read_command(alloc: Global, words: &[String]) -> Result<Command, WordsError>
-    ensures { ReadsWords result (command_of (map string_bytes words.now)) }
+    ensures read { ReadsWords result (command_of (map string_bytes words.now)) }
+    ensures memory { IsErrOf result WordsError.NoMemory → MayLackMemory (map string_bytes words.now) }
 {
     match words {
         [name, rest @ ..] if name.as_str() == "format" => read_format(alloc, rest),
@@ -214,9 +219,11 @@ fn read_command(alloc: Global, words: &[String]) -> Result<Command, WordsError>
 
 /// The command of these words: `format OUT [--segments 1..128]`, or `script IMAGE SCRIPT OUT [--cut N] [--keep K]`.
 /// Options stand anywhere behind the command's name, each once at most, as `--name=value` or as `--name` and the next
-/// word. No word is empty, and one that begins with a minus is an option's.
+/// word. No word is empty, and one that begins with a minus is an option's. Memory is asked for where the first word is the
+/// name of a command and each other word may stand.
 pub fn read_words(alloc: Global, words: &[String]) -> Result<Command, WordsError>
     ensures read { ReadsWords result (command_of (map string_bytes words.now)) }
+    ensures memory { IsErrOf result WordsError.NoMemory → MayLackMemory (map string_bytes words.now) }
     ensures segments { IfOk result (λ command. HasSegments (job_in command)) }
 {
     read_command(alloc, words)
@@ -225,6 +232,7 @@ pub fn read_words(alloc: Global, words: &[String]) -> Result<Command, WordsError
 /// The job of these words.
 pub fn read_job(alloc: Global, words: &[String]) -> Result<Job, WordsError>
     ensures read { ReadsWords result (job_of (map string_bytes words.now)) }
+    ensures memory { IsErrOf result WordsError.NoMemory → MayLackMemory (map string_bytes words.now) }
     ensures segments { IfOk result HasSegments }
 {
     let Command::Run { job, .. } = read_words(alloc, words)?;
