@@ -2,8 +2,10 @@ pub mod ArrayChecks
 pub mod BlockSizes
 pub mod BuiltOwners
 pub mod Chains
+pub mod Circles
 pub mod Columns
 pub mod DistinctChecks
+pub mod EachColumn
 pub mod EntryChecks
 pub mod Faults
 pub mod Firsts
@@ -25,3 +27,4 @@ pub mod SplitChecks
 pub mod StampChecks
 pub mod TableArrays
 pub mod TableChecks
+pub mod TreeChecks

@@ -2,7 +2,7 @@
 use Rattle.std.specs.Prelude.{List, [], ◌∷◌, ◌++◌, Option, option_map}
 use Rattle.image_layout.specs.Checks.{Fault, Numbered, numbered}
 use Rattle.image_layout.specs.HeapRules.{reserved_rule, descriptor_rule, bitmap_rule, lane_rule}
-use Rattle.image_layout.specs.EntryRules.{magic_rule, version_rule, last_rule, table_count_rule, table_slot_rule, arrays_rule, name_rule, objects_rule, entries_rule}
+use Rattle.image_layout.specs.EntryRules.{magic_rule, version_rule, last_rule, table_count_rule, table_slot_rule, arrays_rule, name_rule, objects_rule, entries_rule, tree_rule}
 use Rattle.image_rules.specs.declared.numbered_rules.RuleFault.{RuleFault}
 
 -- a fault as it is told, as one of the rules
@@ -23,7 +23,8 @@ fixed_rules = word_rules ++ heap_rules ++ numbered 9 table_slot_rule ∷ []
 
 -- those of what table slots name, and of transaction objects but for their entries
 abbrev pub structure_rules : List Numbered
-structure_rules = numbered 10 arrays_rule ∷ numbered 12 name_rule ∷ numbered 14 objects_rule ∷ []
+structure_rules =
+    numbered 10 arrays_rule ∷ numbered 11 tree_rule ∷ numbered 12 name_rule ∷ numbered 14 objects_rule ∷ []
 
 -- all of them: the entries of open transactions come last
 abbrev pub entry_rules : List Numbered

@@ -9,3 +9,6 @@ pub(crate) use pm_model::{
 pub(crate) const LEAF_WORDS: u32 = 104;
 
 pub(crate) const LEAF_BLOCK_WORDS: u32 = 128;
+
+// The slots of a leaf, each with a bit of its bitmap.
+pub(crate) const LEAF_SLOTS: u32 = 48;

@@ -40,6 +40,7 @@ mod sound_laws;
 mod split_rules;
 mod stamp_rules;
 mod table_rules;
+mod tree_rules;
 
 pub use array_rules::{arrays_fault, capacity};
 pub use distinct_rules::distinct_name_fault;
@@ -60,3 +61,4 @@ pub use stamp_rules::stamp_fault;
 pub use table_rules::{
     columns_of, published_tables, table_block, table_count_fault, table_slot_fault,
 };
+pub use tree_rules::tree_fault;

@@ -12,6 +12,7 @@ use crate::lane_rules::lane_fault;
 use crate::name_rules::name_fault;
 use crate::object_rules::objects_fault;
 use crate::table_rules::{table_count_fault, table_slot_fault};
+use crate::tree_rules::tree_fault;
 
 /// The number of a rule that an image breaks, and the place of the first word that breaks it.
 #[derive(Clone, Copy)]
@@ -34,8 +35,8 @@ impl RuleFault {
     }
 }
 
-/// The first of the rules of every image that a power cut can leave that the words break: 1 to 10, 12, 14 and 15, tried
-/// in the order of their numbers. A few passes over the descriptors, the tables and the objects.
+/// The first of the rules of every image that a power cut can leave that the words break: 1 to 12, 14 and 15, tried in
+/// the order of their numbers. A few passes over the descriptors, the tables, the leaves and the objects.
 pub fn entry_fault(words: &[u64]) -> Option<RuleFault>
     requires segments { length words.now % 32768 ≡ 0 }
     requires one_or_more { 32768 ≤ length words.now }
@@ -89,7 +90,7 @@ fn heap_fault(words: &[u64]) -> Option<RuleFault>
     reserved.or(descriptor).or(bitmap).or(lane)
 }
 
-// Of those of tables' blocks and of transaction objects, 10, 12 and 14.
+// Of those of tables' blocks and trees and of transaction objects, 10 to 12 and 14.
 fn structure_fault(words: &[u64]) -> Option<RuleFault>
     requires segments { length words.now % 32768 ≡ 0 }
     requires one_or_more { 32768 ≤ length words.now }
@@ -99,7 +100,8 @@ fn structure_fault(words: &[u64]) -> Option<RuleFault>
     ensures { told result ≡ first_fault structure_rules words.now }
 {
     let arrays = RuleFault::of(10, arrays_fault(words));
+    let trees = RuleFault::of(11, tree_fault(words));
     let names = RuleFault::of(12, name_fault(words));
     let objects = RuleFault::of(14, objects_fault(words));
-    arrays.or(names).or(objects)
+    arrays.or(trees).or(names).or(objects)
 }

@@ -9,7 +9,7 @@ use Rattle.image_rules.specs.BuiltOwners.{built_owner_rule, built_single_owner_r
 abbrev pub closing_rules : List Numbered
 closing_rules = numbered 16 idle_rule ∷ numbered 17 split_log_rule ∷ numbered 18 closed_rule ∷ []
 
--- The rules that are tried before any for which memory is taken: 1 to 10, 12 and 14 to 18.
+-- The rules that are tried before any for which memory is taken: 1 to 12 and 14 to 18.
 abbrev pub rules_without_memory : List Numbered
 rules_without_memory = entry_rules ++ closing_rules
 

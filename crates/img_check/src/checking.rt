@@ -16,12 +16,12 @@ use pm_model::NoMemory;
 use std::alloc::Global;
 
 /// Tries the rules of an image at rest, in the order of their numbers: those of every image that a power cut can leave
-/// (1 to 10, 12, 14 and 15), and then that nothing is half done (16 to 18), that live blocks and the owner words of
+/// (1 to 12, 14 and 15), and then that nothing is half done (16 to 18), that live blocks and the owner words of
 /// tables, arrays, leaves and transaction objects go together one to one (19 to 21), that stamps are those of commits
 /// and stand below their table's bound, above which no column begins (27), that pages which were given back are 0 (29),
 /// that names differ (30) and that the version is 2 (31). An error names the first rule that the words break, and the
 /// place where they do. It makes a few passes over the words, and n log n steps for n owner words, for which it takes
-/// memory: where that is refused, the words keep those of them before 19: 1 to 10, 12 and 14 to 18.
+/// memory: where that is refused, the words keep those of them before 19: 1 to 12 and 14 to 18.
 pub fn check(alloc: Global, words: &[u64]) -> Result<(), CheckError>
     requires segments { length words.now % 32768 ≡ 0 }
     requires one_or_more { 32768 ≤ length words.now }

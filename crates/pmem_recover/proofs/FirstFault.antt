@@ -27,6 +27,6 @@ entry-undo words none =
       table_count = kept 3 (record { number = 0; rule = reserved_rule }) (omega arith);
       table_slots = kept 8 (record { number = 0; rule = reserved_rule }) (omega arith);
       arrays = kept 9 (record { number = 0; rule = reserved_rule }) (omega arith);
-      objects = kept 11 (record { number = 0; rule = reserved_rule }) (omega arith);
-      entries = kept 12 (record { number = 0; rule = reserved_rule }) (omega arith);
+      objects = kept 12 (record { number = 0; rule = reserved_rule }) (omega arith);
+      entries = kept 13 (record { number = 0; rule = reserved_rule }) (omega arith);
     }

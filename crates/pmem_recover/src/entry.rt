@@ -9,8 +9,8 @@ use image_rules::entry_fault;
 use std::alloc::Global;
 
 /// Tries the rules of every image that a power cut can leave, in the order of their numbers: 1 to 4 on the first words,
-/// 5 to 7 on the heap, 8 on the lanes, 9, 10 and 12 on the tables, and 14 and 15 on the transaction objects. The error
-/// names the first rule that the words break, and the place where they do. It takes no memory.
+/// 5 to 7 on the heap, 8 on the lanes, 9 to 12 on the tables and their trees, and 14 and 15 on the transaction objects. The
+/// error names the first rule that the words break, and the place where they do. It takes no memory.
 pub fn check_entry(_alloc: Global, words: &[u64]) -> Result<(), EntryError>
     requires segments { length words.now % 32768 ≡ 0 }
     requires one_or_more { 32768 ≤ length words.now }

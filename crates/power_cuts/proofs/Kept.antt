@@ -32,7 +32,7 @@ pub keeps_table_slots : (words : List ℕ) → first_fault entry_rules words ≡
 keeps_table_slots words none = keeps_all entry_rules words none 8 (record { number = 0; rule = reserved_rule }) (omega arith)
 
 pub keeps_objects : (words : List ℕ) → first_fault entry_rules words ≡ None → Keeps words objects_rule
-keeps_objects words none = keeps_all entry_rules words none 11 (record { number = 0; rule = reserved_rule }) (omega arith)
+keeps_objects words none = keeps_all entry_rules words none 12 (record { number = 0; rule = reserved_rule }) (omega arith)
 
 -- an object without segments may be extended
 pub may_extend : (words : List ℕ) (index : HeapIndex) → first_fault entry_rules words ≡ None → get_or words (lane_op_at 0) 0 ≡ 0 → get_or words (ready_at 0) 0 ≡ 0 → get_or words (first_segment_at 0) 0 ≡ 0 → IsIndexOf words index → MayPlanExtension words index 0
@@ -76,7 +76,7 @@ pub keeps_tables : (words : List ℕ) → first_fault entry_rules words ≡ None
 keeps_tables words none count = record {
   table_count = keeps_table_count words none;
   table_slots = keeps_table_slots words none;
-  names = keeps_all entry_rules words none 10 (record { number = 0; rule = reserved_rule }) (omega arith);
+  names = keeps_all entry_rules words none 11 (record { number = 0; rule = reserved_rule }) (omega arith);
   distinct_names = no_names words count;
 }
 
@@ -85,6 +85,6 @@ pub keeps_named_tables : (words : List ℕ) → first_fault entry_rules words �
 keeps_named_tables words none distinct = record {
   table_count = keeps_table_count words none;
   table_slots = keeps_table_slots words none;
-  names = keeps_all entry_rules words none 10 (record { number = 0; rule = reserved_rule }) (omega arith);
+  names = keeps_all entry_rules words none 11 (record { number = 0; rule = reserved_rule }) (omega arith);
   distinct_names = record { checks = all_hold (distinct_name_rule words) distinct };
 }

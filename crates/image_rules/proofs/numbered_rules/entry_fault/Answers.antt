@@ -34,7 +34,7 @@ entries_fault-requires-clause-arrays c =
 
 pub entries_fault-requires-clause-objects : goal.entries_fault-requires-clause-objects
 entries_fault-requires-clause-objects c =
-    keeps_all structure_rules c.args.words.now (told-none structure_rules c.args.words.now c.structure_fault-structure.result c.structure_fault-structure.ensures (sym c.is_some-2.ensures ∙ c.if-is_some-2.false)) 2 (numbered 0 magic_rule) (omega arith)
+    keeps_all structure_rules c.args.words.now (told-none structure_rules c.args.words.now c.structure_fault-structure.result c.structure_fault-structure.ensures (sym c.is_some-2.ensures ∙ c.if-is_some-2.false)) 3 (numbered 0 magic_rule) (omega arith)
 
 pub returns-then-is_some : goal.returns-then-is_some
 returns-then-is_some c = told-first fixed_rules (structure_rules ++ numbered 15 entries_rule ∷ []) c.args.words.now c.fixed_fault-fixed.result c.fixed_fault-fixed.ensures (sym c.is_some.ensures ∙ c.if-is_some.true)

@@ -22,7 +22,7 @@ pub owners_fault-requires-clause-slots : goal.owners_fault-requires-clause-slots
 owners_fault-requires-clause-slots c = kept c.args.words.now c.standing_fault-standing.result c.standing_fault-standing.ensures (sym c.is_some.ensures ∙ c.if-is_some.false) 8 (omega arith)
 
 pub owners_fault-requires-clause-objects : goal.owners_fault-requires-clause-objects
-owners_fault-requires-clause-objects c = kept c.args.words.now c.standing_fault-standing.result c.standing_fault-standing.ensures (sym c.is_some.ensures ∙ c.if-is_some.false) 11 (omega arith)
+owners_fault-requires-clause-objects c = kept c.args.words.now c.standing_fault-standing.result c.standing_fault-standing.ensures (sym c.is_some.ensures ∙ c.if-is_some.false) 12 (omega arith)
 
 pub content_fault-requires-clause-tables : goal.content_fault-requires-clause-tables
 content_fault-requires-clause-tables c = kept c.args.words.now c.standing_fault-standing.result c.standing_fault-standing.ensures (sym c.is_some.ensures ∙ c.if-is_some.false) 3 (omega arith)

@@ -17,7 +17,7 @@ closing_fault-requires-clause-slots c =
 
 pub closing_fault-requires-clause-objects : goal.closing_fault-requires-clause-objects
 closing_fault-requires-clause-objects c =
-    keeps_all entry_rules c.args.words.now (told-none entry_rules c.args.words.now c.entry_fault-entry.result c.entry_fault-entry.ensures (sym c.is_some.ensures ∙ c.if-is_some.false)) 11 (numbered 0 magic_rule) (omega arith)
+    keeps_all entry_rules c.args.words.now (told-none entry_rules c.args.words.now c.entry_fault-entry.result c.entry_fault-entry.ensures (sym c.is_some.ensures ∙ c.if-is_some.false)) 12 (numbered 0 magic_rule) (omega arith)
 
 pub returns-then-is_some : goal.returns-then-is_some
 returns-then-is_some c = told-first entry_rules closing_rules c.args.words.now c.entry_fault-entry.result c.entry_fault-entry.ensures (sym c.is_some.ensures ∙ c.if-is_some.true)
