@@ -1,7 +1,7 @@
 // The soundness check, on images in which words were changed.
 use crate::ground::{
-    BLOCK, Change, EXTENSION, EXTENSIONS, FIRST_VERSION, LAST_PAGE, PAGE_5, PAGE_9, SLOT, TABLE,
-    TWO_COMMITS, VALUE, image,
+    BLOCK, Change, EXTENSION, EXTENSIONS, FIRST_VERSION, LAST_PAGE, LEAF, PAGE_5, PAGE_9, SLOT,
+    TABLE, TWO_COMMITS, VALUE, image,
 };
 use img_check::{CheckError, check};
 use pm_model::NoMemory;
@@ -58,7 +58,7 @@ fn told_of(alloc: Global, lists: &[&[Change]]) -> Result<Option<Told>, NoMemory>
 
 #[test]
 fn the_first_broken_rule_is_told(rt: HostRuntime) -> Result<(), Fail> {
-    let cases: [(&[Change], Told); 36] = [
+    let cases: [(&[Change], Told); 39] = [
         (&[], None),
         (&[(512, 0)], Some((1, 512))),
         (&[(513, 9)], Some((2, 513))),
@@ -76,9 +76,12 @@ fn the_first_broken_rule_is_told(rt: HostRuntime) -> Result<(), Fail> {
         (&[(696, 1), (697, BLOCK), (698, BLOCK)], Some((16, 696))),
         (&[(576, 1), (577, SLOT), (578, BLOCK)], Some((16, 576))),
         (&[(521, BLOCK)], Some((17, 521))),
-        (&[(2101, 1)], Some((17, 2101))),
-        (&[(2102, 1), (1984, 1)], Some((17, 2102))),
-        (&[(521, BLOCK), (2102, 1)], Some((17, 2102))),
+        (&[(2100, LEAF), (2101, LEAF)], Some((17, 2101))),
+        (&[(2102, LEAF), (1984, 1)], Some((17, 2102))),
+        (&[(521, BLOCK), (2102, LEAF)], Some((17, 2102))),
+        (&[(2101, 1)], Some((11, 2101))),
+        (&[(2102, 1)], Some((11, 2102))),
+        (&[(2101, LEAF)], Some((11, 2101))),
         (&[(1984, 1)], Some((18, 1984))),
         (&[(1985, 1)], Some((18, 1985))),
         (&[(2047, 1)], Some((18, 2047))),

@@ -1,5 +1,8 @@
 // The rules that are tried before an image is opened, on images in which words were changed.
-use crate::ground::{BLOCK, Change, EXTENSION, EXTENSIONS, LAST_PAGE, TABLE, image};
+use crate::ground::{
+    BLOCK, Change, EXTENSION, EXTENSIONS, LAST_PAGE, LEAF, NEXT_LEAF, TABLE, TWO_COMMITS, VALUE,
+    image,
+};
 use pm_model::NoMemory;
 use pmem_recover::{EntryError, check_entry};
 use std::alloc::Global;
@@ -149,6 +152,89 @@ fn the_first_broken_rule_of_extensions_is_told(rt: HostRuntime) -> Result<(), Fa
     ];
     for (changes, told) in cases {
         let found = told_of(rt.alloc(), &[&TABLE, &EXTENSIONS, changes])?;
+        assert_eq!(rt; found, Some(told), "{changes:?}");
+    }
+    Ok(())
+}
+
+// Two leaves in the column's list, the second and the third slot of page 4, and the pointer to a place behind them.
+const LEAVES: [Change; 3] = [(2048, 7), (2100, LEAF), (2185, NEXT_LEAF)];
+
+const THIRD_LEAF: u64 = LEAF + 256;
+
+#[test]
+fn the_first_broken_rule_of_trees_is_told(rt: HostRuntime) -> Result<(), Fail> {
+    let cases: [(&[Change], Told); 30] = [
+        (&[], None),
+        // Each pointer of the column's record names words of a leaf's block, in one segment.
+        (&[(2100, 1)], Some((11, 2100))),
+        (&[(2100, LAST_PAGE + 384)], None),
+        (&[(2100, LAST_PAGE + 385)], Some((11, 2100))),
+        (&[(2101, 1)], Some((11, 2101))),
+        (&[(2102, 1)], Some((11, 2102))),
+        (&[(2102, THIRD_LEAF)], None),
+        (&[(2102, 1), (2185, 1)], Some((11, 2102))),
+        // The bitmap of each leaf has 48 bits.
+        (&[(2184, 1 << 48)], Some((11, 2184))),
+        (&[(2184, (1 << 48) - 1)], None),
+        (&[(2312, 1 << 48)], Some((11, 2312))),
+        (&[(2440, 1 << 48)], None),
+        // Each next word names words of a leaf's block.
+        (&[(2185, 1)], Some((11, 2185))),
+        (&[(2185, 0), (2312, 1 << 48)], None),
+        (&[(2313, LAST_PAGE + 385)], Some((11, 2313))),
+        (&[(2184, 1 << 48), (2185, 1)], Some((11, 2184))),
+        // No leaf is reached twice: the circle is told where it closes, behind what is broken before.
+        (&[(2185, LEAF)], Some((11, 2185))),
+        (&[(2313, LEAF)], Some((11, 2313))),
+        (&[(2313, NEXT_LEAF)], Some((11, 2313))),
+        (&[(2313, THIRD_LEAF)], None),
+        (&[(2313, THIRD_LEAF), (2441, LEAF)], Some((11, 2441))),
+        (&[(2313, THIRD_LEAF), (2441, NEXT_LEAF)], Some((11, 2441))),
+        (&[(2312, 1 << 48), (2313, LEAF)], Some((11, 2312))),
+        // The leaf that is being split is one of the list.
+        (&[(2101, LEAF)], None),
+        (&[(2101, NEXT_LEAF)], None),
+        (&[(2101, THIRD_LEAF)], Some((11, 2101))),
+        (&[(2101, THIRD_LEAF), (2313, LEAF)], Some((11, 2313))),
+        (&[(2100, 0), (2101, LEAF)], Some((11, 2101))),
+        // The rules on both sides.
+        (&[(2185, 1), (2132, 1)], Some((10, 2132))),
+        (&[(2185, 1), (2096, 3)], Some((11, 2185))),
+    ];
+    for (changes, told) in cases {
+        let found = told_of(rt.alloc(), &[&TABLE, &LEAVES, changes])?;
+        assert_eq!(rt; found, Some(told), "{changes:?}");
+    }
+    Ok(())
+}
+
+// A split that is about to link its leaf, where this one leads back: the image may be opened, and then it breaks the
+// rule.
+#[test]
+fn a_mended_split_may_close_a_circle(rt: HostRuntime) -> Result<(), Fail> {
+    let cases: [(&[Change], Told); 2] = [
+        (&[(2101, LEAF), (2102, NEXT_LEAF), (2313, LEAF)], None),
+        (&[(2185, NEXT_LEAF), (2313, LEAF)], Some((11, 2313))),
+    ];
+    for (changes, told) in cases {
+        let found = told_of(rt.alloc(), &[&TABLE, &VALUE, changes])?;
+        assert_eq!(rt; found, Some(told), "{changes:?}");
+    }
+    Ok(())
+}
+
+// The trees of each column, also of those in extensions.
+#[test]
+fn trees_of_extensions_are_tried(rt: HostRuntime) -> Result<(), Fail> {
+    let cases: [(&[Change], Told); 4] = [
+        (&[], None),
+        (&[(4629, 1)], Some((11, 4629))),
+        (&[(4692, 1), (2313, NEXT_LEAF)], Some((11, 2313))),
+        (&[(4692, 1), (2185, 1)], Some((11, 2185))),
+    ];
+    for (changes, told) in cases {
+        let found = told_of(rt.alloc(), &[&TABLE, &TWO_COMMITS, changes])?;
         assert_eq!(rt; found, Some(told), "{changes:?}");
     }
     Ok(())

@@ -26,6 +26,11 @@ pub(crate) const BLOCK: u64 = 4_294_969_352;
 
 pub(crate) const LAST_PAGE: u64 = 4_294_999_552;
 
+/// The pointers to the second and the third slot of page 4.
+pub(crate) const LEAF: u64 = 4_294_969_480;
+
+pub(crate) const NEXT_LEAF: u64 = 4_294_969_608;
+
 /// The pointer to page 5.
 pub(crate) const PAGE_5: u64 = 4_294_969_856;
 

@@ -1,6 +1,6 @@
 ghost use Rattle.std.specs.Prelude.{◌≡◌, length};
 
-use crate::ground::{Change, PAGE_5, image};
+use crate::ground::{Change, LEAF, NEXT_LEAF, PAGE_5, image};
 use image_rules::{
     objects_fault, owned_fault, owner_fault, single_owner_fault, table_count_fault,
     table_slot_fault,
@@ -49,11 +49,6 @@ const TABLE: [Change; 6] = [
     (2056, 1),
     (2062, 1),
 ];
-
-// The pointers to the second and the third slot of page 4.
-const LEAF: u64 = 4_294_969_480;
-
-const NEXT_LEAF: u64 = 4_294_969_608;
 
 // The pointer to the slot of page 6 as a page with one slot.
 const SEGMENT: u64 = 4_294_970_376;
