@@ -3,3 +3,4 @@ mod OneTransaction
 mod FirstTable
 mod WorkedImages
 mod WrittenState
+mod TwoLanes

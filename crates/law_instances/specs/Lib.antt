@@ -1,3 +1,4 @@
 pub mod OneTransaction
 pub mod FirstTable
 pub mod FirstVersion
+pub mod TwoLanes

@@ -4,14 +4,17 @@
 //! Layer: tests and measurements, above `txn_object`, `catalog`, `seg_array` and `mv_model`, whose laws it uses as a
 //! caller does. No crate stands on it, and it has no code.
 //!
-//! State: none. `specs/OneTransaction` and `specs/FirstTable` have the words that each plan leaves, and
-//! `specs/FirstVersion` an image of version 1.
+//! State: none. `specs/OneTransaction` and `specs/FirstTable` have the words that each plan leaves,
+//! `specs/FirstVersion` an image of version 1, and `specs/TwoLanes` one whose logs don't fit.
 //!
 //! Laws: `transaction_law` (a begin, an entry and a retire, each over the words that the one before it leaves),
 //! `creation_law` (the first table), `consistency_law` (the states of a store's histories), `written_images_law` (sound
-//! and intact images, word by word, and what may grow in them).
+//! and intact images, word by word, and what may grow in them), `logs_law` (an image whose opening ends sound, and a cut
+//! of whose opening doesn't).
 #![tactic(auto)]
 
 mod laws;
+mod logs;
 
 pub use laws::{consistency_law, creation_law, transaction_law, written_images_law};
+pub use logs::logs_law;
