@@ -27,7 +27,7 @@ use Rattle.image_layout.specs.Arrays.{chunk_words, chunk_count, chunk_pointer_at
 use Rattle.seg_array.specs.Growth.{next_pointer_at, growth_parts}
 use Rattle.seg_array.specs.Calls.{MayPlanGrowth, IsGrowthPlanned}
 use Rattle.heap_tests.specs.ArrayImages.{test_image, owned_image, IsReady}
-use Rattle.seg_array.proofs.Headers.{array_from}
+use Rattle.seg_array.proofs.Headers.{array_from, no_chunks, null_pointer}
 use Rattle.seg_array.proofs.Whole.{growth_plan}
 use Rattle.seg_array.proofs.Again.{points_at, growth_again}
 
@@ -81,26 +81,6 @@ module _ (words : List ℕ) (page : ℕ) (is : IsHeapPage words page) (outside :
 
   head_rules : KeepsHeapRules words → KeepsHeapRules (set words (descriptor_at page) 17)
   head_rules rules = heads_rules words (set words (descriptor_at page) 17) page 1 head_set is rules
-
-null_pointer : (words : List ℕ) (chunk : ℕ) → is_chunk_pointer words 0 chunk 0 ≡ true
-null_pointer words chunk = cond-false (ltb chunk 0) _ _ (le-ltb chunk 0 (omega arith)) ∙ either (eqb chunk 0)
-  where
-    either : (b : Bool) → cond b (is_null_or_pointer_to words (chunk_words chunk) 0) (eqb 0 0) ≡ true
-    either true = refl
-    either false = refl
-
--- a header of an array without chunks
-no_chunks : (words : List ℕ) (header : ℕ) → ((k : ℕ) → k < 13 → get_or words (header + k) 0 ≡ 0) → Keeps words (array_rule header)
-no_chunks words header zeros = array_from words header (omega (arith, count)) pointer
-  where
-    count : get_or words header 0 ≡ 0
-    count = let at : header + 0 ≡ header = omega arith in subst (λ (w : ℕ). get_or words w 0 ≡ 0) at (zeros 0 (omega arith))
-
-    pointer : (chunk : ℕ) → chunk < 12 → is_chunk_pointer words (chunk_count words header) chunk (get_or words (chunk_pointer_at header chunk) 0) ≡ true
-    pointer chunk lt =
-        let at : header + (chunk + 1) ≡ chunk_pointer_at header chunk = omega arith in
-        let null = subst (λ (w : ℕ). get_or words w 0 ≡ 0) at (zeros (chunk + 1) (omega (arith, lt))) in
-        ap (λ (p : ℕ). is_chunk_pointer words (chunk_count words header) chunk p) null ∙ ap (λ (n : ℕ). is_chunk_pointer words n chunk 0) count ∙ null_pointer words chunk
 
 -- ── an array without chunks ──
 

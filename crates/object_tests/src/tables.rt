@@ -1,6 +1,7 @@
-ghost use Rattle.std.specs.Prelude.{◌≤◌, IfOk};
+ghost use Rattle.std.specs.Prelude.{◌≡◌, ℕ, ◌+◌, ◌≤◌, IfOk, length};
 ghost use Rattle.pm_model.specs.Plain.{device_of};
 ghost use Rattle.heap_palloc.specs.Calls.{IsSettled};
+ghost use Rattle.seg_array.specs.Calls.{IsHeader};
 
 use arrayvec::ArrayVec;
 use catalog::{Catalog, CreateError, NoMemory, rebuild};
@@ -11,8 +12,8 @@ use std::alloc::Global;
 use std::process::Abort;
 use test_ground::{formatted_heap, play_whole};
 
-// A formatted image of so many segments, its heap and its catalog.
-fn formatted(alloc: Global, segments: u32) -> Result<(Plain, Heap, Catalog), NoMemory>
+/// A formatted image of so many segments, its heap and its catalog.
+pub(crate) fn formatted(alloc: Global, segments: u32) -> Result<(Plain, Heap, Catalog), NoMemory>
     requires some { 1 ≤ segments }
     requires most { segments ≤ 128 }
     ensures { IfOk result (λ made. IsSettled (device_of made.0) made.1) }
@@ -27,7 +28,9 @@ fn name(rt: &impl Abort, text: &str) -> Name {
 }
 
 // One column `a` of integers.
-fn one_column(rt: &impl Abort) -> Shape {
+fn one_column(rt: &impl Abort) -> Shape
+    ensures { length result ≡ 1 }
+{
     let mut columns = ArrayVec::new();
     columns.push(Column {
         name: name(rt, "a"),
@@ -36,17 +39,19 @@ fn one_column(rt: &impl Abort) -> Shape {
     Shape::of(columns).expect(rt, "a shape")
 }
 
-// Creates a table with one column through lane 0.
-fn create<M: Memory>(
+/// Creates a table with one column through lane 0, and gives the place of its block.
+pub(crate) fn create<M: Memory>(
     rt: &impl Abort,
     alloc: Global,
     memory: &mut M,
     heap: &mut Heap,
     catalog: &mut Catalog,
     text: &str,
-) -> Result<(), CreateError>
+) -> Result<Place, CreateError>
     requires { IsSettled (M.device memory.old) heap.old }
-    ensures { IsSettled (M.device memory.new) heap.new }
+    ensures settled { IsSettled (M.device memory.new) heap.new }
+    ensures headers { IfOk result (λ block. (array : ℕ) → array + 16 ≤ 80 →
+        IsHeader (M.device memory.new).cached (block.0 + array)) }
 {
     let count = catalog.count();
     assert_eq!(rt; memory.load(Place(576)), 0);
@@ -59,7 +64,7 @@ fn create<M: Memory>(
     let mut plan = catalog.plan_create(alloc, memory, heap, 0, &table, &shape)?;
     play_whole(memory, 1, &mut plan);
     catalog.published();
-    Ok(())
+    Ok(catalog.block(count))
 }
 
 // Creates tables of these names, one after the other.

@@ -113,6 +113,27 @@ module _ (words : List ℕ) (header : ℕ) where
         (Contains-cons count_here c (map pointer_here (below 12)) is));
   }
 
+-- a null pointer, of an array without chunks
+pub null_pointer : (words : List ℕ) (chunk : ℕ) → is_chunk_pointer words 0 chunk 0 ≡ true
+null_pointer words chunk = cond-false (ltb chunk 0) _ _ (le-ltb chunk 0 (omega arith)) ∙ either (eqb chunk 0)
+  where
+    either : (b : Bool) → cond b (is_null_or_pointer_to words (chunk_words chunk) 0) (eqb 0 0) ≡ true
+    either true = refl
+    either false = refl
+
+-- where the words of a header are 0 the array has no chunks, and keeps its rule
+pub no_chunks : (words : List ℕ) (header : ℕ) → ((k : ℕ) → k < 13 → get_or words (header + k) 0 ≡ 0) → Keeps words (array_rule header)
+no_chunks words header zeros = array_from words header (omega (arith, count)) pointer
+  where
+    count : get_or words header 0 ≡ 0
+    count = let at : header + 0 ≡ header = omega arith in subst (λ (w : ℕ). get_or words w 0 ≡ 0) at (zeros 0 (omega arith))
+
+    pointer : (chunk : ℕ) → chunk < 12 → is_chunk_pointer words (chunk_count words header) chunk (get_or words (chunk_pointer_at header chunk) 0) ≡ true
+    pointer chunk lt =
+        let at : header + (chunk + 1) ≡ chunk_pointer_at header chunk = omega arith in
+        let null = subst (λ (w : ℕ). get_or words w 0 ≡ 0) at (zeros (chunk + 1) (omega (arith, lt))) in
+        ap (λ (p : ℕ). is_chunk_pointer words (chunk_count words header) chunk p) null ∙ ap (λ (n : ℕ). is_chunk_pointer words n chunk 0) count ∙ null_pointer words chunk
+
 -- ── what is read of an array ──
 
 -- such a pointer is read with the length of the image alone
