@@ -1,8 +1,8 @@
 -- Where owner words are apart and the entry rules are kept: the blocks of tables, arrays and transaction objects.
-use Rattle.std.proofs.Common.{◌≡◌, ◌≢◌, ◌⊎◌, inl, inr, ⊎_elim, ℕ, zero, suc, ◌+◌, ◌-◌, ◌*◌, ◌^◌, ◌<◌, ◌≤◌, min, Bool, true, false, ◌&&◌, ltb, leb, List, [], ◌∷◌, ◌++◌, get_or, map, refl, sym, ◌∙◌, ap, subst, arith}
+use Rattle.std.proofs.Common.{◌≡◌, ◌≢◌, ◌⊎◌, inl, inr, ⊎_elim, ℕ, zero, suc, ◌+◌, ◌-◌, ◌^◌, ◌<◌, ◌≤◌, min, Bool, true, false, ◌&&◌, ltb, leb, List, [], ◌∷◌, ◌++◌, get_or, map, refl, sym, ◌∙◌, ap, subst, arith}
 use Rattle.std.specs.Prelude.{All, Contains}
 use Rattle.std.specs.List.{flat_map}
-use Rattle.std.proofs.lemmas.Bool.{cases_Bool, cases_eq, cases_lt, ltb-true, and_parts, leb-true, lt-ltb, cond-true}
+use Rattle.std.proofs.lemmas.Bool.{cases_Bool, ltb-true, and_parts, leb-true, lt-ltb, cond-true}
 use Rattle.std.proofs.lemmas.List.Elements.{All-contains, Contains-append_left, Contains-append_cases}
 use Rattle.image_layout.specs.Fixed.{commit_word_at, first_segment_at, last_at, ready_at, state_at, table_slot_at}
 use Rattle.image_layout.specs.Places.{below, place_in, is_pointer, is_pointer_to, is_null_or_pointer_to, is_in_segment}
@@ -15,14 +15,14 @@ use Rattle.image_layout.specs.Checks.{Check, check, Keeps}
 use Rattle.image_layout.specs.EntryRules.{KeepsEntryRules, table_count_rule, table_slot_rule, arrays_rule, is_segment_pointer, object_rule, objects_rule}
 use Rattle.image_layout.specs.Tables.{table_count, table_block, table_blocks, all_columns, array_headers, column_count, extension_count, extension_of, extension_pointer_at, is_first_version, is_text, last_extension_pointer}
 use Rattle.image_layout.specs.Objects.{commit_word, ready_count, segment_pointer_at, segment_of, pointer_after}
-use Rattle.image_layout.specs.Owners.{names_one, chunk_owner, table_owner, segment_owner, OwnersAreApart, next_chunk_pointers, next_extension_pointers, next_table_slots, next_text_slots, unfinished_slots, lane_targets}
+use Rattle.image_layout.specs.Owners.{names_one, chunk_owner, segment_owner, OwnersAreApart, next_chunk_pointers, next_extension_pointers, next_table_slots, next_text_slots, unfinished_slots, lane_targets}
 use Rattle.image_layout.proofs.Faults.{Holds}
 use Rattle.image_layout.proofs.Members.{below-Contains, Contains-below, Contains-here, Contains-there, Contains-cons, Contains-nil, Contains-flat_map, flat_map-Contains, Contains-map, map-Contains}
 use Rattle.image_layout.proofs.ChunkSizes.{capacity_next, chunk_below}
 use Rattle.image_layout.proofs.Heap.{live_blocks_apart}
 use Rattle.image_layout.proofs.TableSlots.{few_tables, pointer_some}
 use Rattle.image_layout.proofs.TableParts.{IsColumnOf, IsAt, IsHome, IsPartIn, at_behind, at_once, column_among, column_header, column_of, column_spot, extension_live, extension_some, first_outside, fixed_outside, header_at, in_block, in_extension, one_home, part_at, part_home, part_in, part_of, part_owner, pointer_or_part, table_live}
-use Rattle.image_layout.proofs.OwnersApart.{LiveAt, live_behind, table_fits, chunk_size, all_from, named, table_in, block_in, object_in, table_before_own, table_before_table, table_before_object, object_before_object, chunk_in, segment_in, segment_before, header_in, live_owner, differ}
+use Rattle.image_layout.proofs.OwnersApart.{LiveAt, chunk_size, all_from, named, block_in, object_in, object_before_object, chunk_in, segment_in, segment_before, header_in, live_owner, differ}
 
 -- ── rules of one thing out of many ──
 

@@ -1,18 +1,18 @@
 -- Where the parts of a table stand: its head, and the record of each column, in the table's block or in an extension.
-use Rattle.std.proofs.Common.{◌≡◌, ◌≢◌, ◌⊎◌, inl, inr, ⊎_elim, ℕ, zero, suc, ◌+◌, ◌-◌, ◌*◌, ◌<◌, ◌≤◌, Bool, true, false, ltb, List, [], ◌∷◌, get_or, map, refl, sym, ◌∙◌, ap, subst, arith}
+use Rattle.std.proofs.Common.{◌≡◌, ◌≢◌, ◌⊎◌, inl, inr, ⊎_elim, ℕ, zero, suc, ◌+◌, ◌-◌, ◌*◌, ◌<◌, ◌≤◌, true, false, ltb, List, [], ◌∷◌, get_or, refl, sym, ◌∙◌, ap, subst, arith}
 use Rattle.std.specs.Prelude.{Contains}
 use Rattle.std.specs.List.{flat_map}
 use Rattle.std.proofs.lemmas.Bool.{cases_Bool, cases_eq, cases_lt, cond-false, cond-true, le-ltb, lt-ltb}
 use Rattle.image_layout.specs.Fixed.{table_slot_at}
-use Rattle.image_layout.specs.Places.{below, place_in}
-use Rattle.image_layout.specs.Records.{codes_header, column_at, columns_at, created_header, dictionary_header, ended_header, extension_column_at, inner_columns_at, new_leaf_at, table_words}
-use Rattle.image_layout.specs.Blocks.{Block, block_words, live_blocks}
+use Rattle.image_layout.specs.Places.{below}
+use Rattle.image_layout.specs.Records.{codes_header, column_at, created_header, dictionary_header, ended_header, extension_column_at, inner_columns_at, new_leaf_at, table_words}
+use Rattle.image_layout.specs.Blocks.{Block, block_words}
 use Rattle.image_layout.specs.Tables.{table_count, table_block, table_blocks, columns_of, all_columns, column_count, column_headers, column_record, array_headers, extension_count, extension_of, extension_pointer_at, inner_columns, is_first_version}
 use Rattle.image_layout.specs.HeapRules.{reserved_rule, descriptor_rule}
 use Rattle.image_layout.specs.Checks.{Keeps}
 use Rattle.image_layout.specs.EntryRules.{table_count_rule, table_slot_rule}
 use Rattle.image_layout.specs.Owners.{Owner, word_of, named_block, extension_owner, owner_words, table_owner, OwnersAreApart}
-use Rattle.image_layout.proofs.Members.{below-Contains, Contains-below, Contains-here, Contains-there, Contains-cons, Contains-nil, Contains-flat_map, flat_map-Contains, Contains-map, map-Contains}
+use Rattle.image_layout.proofs.Members.{below-Contains, Contains-below, Contains-there, Contains-cons, Contains-nil, Contains-flat_map, flat_map-Contains, Contains-map, map-Contains}
 use Rattle.image_layout.proofs.Precedes.{either_first}
 use Rattle.image_layout.proofs.Heap.{live_blocks_apart}
 use Rattle.image_layout.proofs.TableSlots.{few_tables, one_extension, one_table}

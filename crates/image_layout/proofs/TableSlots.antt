@@ -1,15 +1,15 @@
 -- What the rules of the table count and of table slots say of a published table's pointer, and of its extensions.
-use Rattle.std.proofs.Common.{◌≡◌, ◌≢◌, ℕ, ◌+◌, ◌-◌, ◌%◌, ◌<◌, ◌≤◌, true, false, not, ◌&&◌, ◌||◌, eqb, ltb, leb, List, [], ◌∷◌, ◌++◌, length, get_or, map, sym, ◌∙◌, ap, subst, arith}
-use Rattle.std.specs.Prelude.{All, Contains}
+use Rattle.std.proofs.Common.{◌≡◌, ◌≢◌, ℕ, ◌+◌, ◌%◌, ◌<◌, ◌≤◌, true, false, ◌&&◌, eqb, ltb, leb, List, [], ◌∷◌, ◌++◌, length, get_or, map, sym, ◌∙◌, subst, arith}
+use Rattle.std.specs.Prelude.{Contains}
 use Rattle.std.proofs.lemmas.Bool.{and_parts, eqb-true, ltb-true, leb-true, lt-ltb, cond-true, cond-false}
 use Rattle.std.proofs.lemmas.List.Elements.{All-contains, Contains-append_left, Contains-append_right}
 use Rattle.image_layout.specs.Fixed.{table_slot_at}
 use Rattle.image_layout.specs.Pointer.{pointer_word}
 use Rattle.image_layout.specs.Places.{below, place_in, is_pointer, is_pointer_to, is_null_or_pointer_to, is_in_segment}
 use Rattle.image_layout.specs.Records.{extension_words, table_words}
-use Rattle.image_layout.specs.Tables.{table_count, table_block, column_count, extension_count, extension_of, extension_pointer_at, inner_columns, is_first_version, last_extension_pointer}
+use Rattle.image_layout.specs.Tables.{table_count, table_block, column_count, extension_count, extension_pointer_at, inner_columns, is_first_version, last_extension_pointer}
 use Rattle.image_layout.specs.Checks.{Check, check, Keeps}
-use Rattle.image_layout.specs.EntryRules.{extension_checks, extension_pointer_check, is_among, is_extension_pointer, is_table_slot, is_table_pointer, last_pointer_check, table_slot_checks, table_slot_rule, table_count_rule}
+use Rattle.image_layout.specs.EntryRules.{extension_checks, extension_pointer_check, is_extension_pointer, is_table_slot, is_table_pointer, last_pointer_check, table_slot_checks, table_slot_rule, table_count_rule}
 use Rattle.image_layout.proofs.Heap.{Holds}
 use Rattle.image_layout.proofs.Members.{below-Contains, Contains-here, Contains-there, flat_map-Contains, map-Contains}
 

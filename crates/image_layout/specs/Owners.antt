@@ -196,15 +196,19 @@ lane_targets words =
     ++ map (pointer_after words) (below 16)
     ++ flat_map (λ table. next_extension_pointers words (table_block words table)) (below (table_count words))
 
+-- a word is 0, or the pointer of a live block
+abbrev pub IsNullOrLive : List ℕ → ℕ → Type 0
+IsNullOrLive words at =
+    slice_index words at ≢ 0
+    → IsTrue (is_pointer words (slice_index words at))
+    × Contains (map (λ block. block.first) (live_blocks words)) (place_in (slice_index words at))
+
 -- Owner words name live blocks, and no two of them one block, whatever a power cut left half done.
 pub record OwnersAreApart (words : List ℕ) : Type 0 where
   -- an owner word that names a block names a live one, of the size that its owner needs
   pub firm : All (λ owner. IsTrue (names_one words owner) → IsTrue (owns_block words owner)) (firm_owners words)
   -- the slot of a table that is being created is 0, or the pointer of a live block
-  pub unfinished : All
-      (λ at. slice_index words at ≢ 0 → IsTrue (is_pointer words (slice_index words at))
-      × Contains (map (λ block. block.first) (live_blocks words)) (place_in (slice_index words at)))
-      (unfinished_slots words)
+  pub unfinished : All (IsNullOrLive words) (unfinished_slots words)
   -- no two owner words name one block
   pub apart : AllPairs (NameApart words) (owner_places words)
   -- each lane that is at work allocates into, or frees from, an owner word that may be half done

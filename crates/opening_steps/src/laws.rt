@@ -1,11 +1,9 @@
 // The laws of the steps of opening.
-ghost use Rattle.std.specs.Prelude.{◌≡◌, ◌≤◌, ℕ, List, length, take};
+ghost use Rattle.std.specs.Prelude.{◌≤◌, ℕ, List, length};
 ghost use Rattle.image_layout.specs.SoundRules.{IsIntact};
 ghost use Rattle.pm_model.specs.Device.{IsCrashImage};
-ghost use Rattle.pm_model.specs.Plans.{at_rest, run};
 ghost use Rattle.shown_state.specs.Fits.{BeginFirst};
 ghost use Rattle.shown_state.specs.Mending.{version_mending};
-ghost use Rattle.shown_state.specs.LogicalState.{logical_state};
 ghost use Rattle.shown_state.specs.OpeningParts.{IsImage, StepKeeps, opening_plan};
 ghost use Rattle.shown_state.specs.Recoverable.{IsRecoverable};
 ghost use Rattle.shown_state.specs.StepLaws.{
@@ -20,7 +18,7 @@ ghost use Rattle.shown_state.specs.StepLaws.{
   UndosKeep,
   VersionKeeps,
 };
-ghost use Rattle.opening_steps.specs.QuietImages.{IsQuiet};
+ghost use Rattle.opening_steps.specs.QuietImages.{IsQuiet, LeavesQuiet, opened_up_to};
 
 /// A law for proofs: each cut of the mending of a lane at work keeps what fits together, and shows the same; behind it
 /// the lane is idle. An allocation whose owner's word names the block is ended, another is taken back, and a freeing is
@@ -73,9 +71,8 @@ pub fn version_step_law()
 /// shows the same: so opening may be cut any number of times. An intact image is such an image.
 pub fn quiet_opening_law()
     ensures opens { (words : List ℕ) → IsQuiet words → OpensStill words }
-    ensures cuts { (words : List ℕ) (k : ℕ) (image : List ℕ) → IsQuiet words → k ≤ length (opening_plan words)
-        → IsCrashImage (run 0 (take k (opening_plan words)) (at_rest words)) image
-        → IsQuiet image × (logical_state image ≡ logical_state words) }
+    ensures cuts { (words : List ℕ) (k : ℕ) (image : List ℕ) → IsQuiet words → k ≤ length (opening_plan words) →
+        IsCrashImage (opened_up_to words k) image → LeavesQuiet words image }
     ensures recovers { (words : List ℕ) → IsQuiet words → IsRecoverable words }
     ensures intact { (words : List ℕ) → IsImage words → IsIntact words → BeginFirst words → IsQuiet words }
 {}

@@ -18,15 +18,17 @@ pub record HasSameHeader (old new : List ℕ) (header : ℕ) : Type 0 where
   pub size : length new ≡ length old
   pub each : (k : ℕ) → k ≤ MAX_CHUNKS → slice_index new (header + k) ≡ slice_index old (header + k)
 
+-- how many pages the new chunk has
+abbrev pub grown_pages : List ℕ → Growth → ℕ
+grown_pages base g = chunk_pages (chunk_count base g.header)
+
 -- no word of the array moves, and each word that the growth doesn't write stays
 pub record KeepsArray (base : List ℕ) (g : Growth) (words : List ℕ) : Type 0 where
   pub size : length words ≡ length base
   pub places : (index : ℕ) → index < capacity base g.header
       → place_of words g.header index ≡ place_of base g.header index
-  pub others : (w : ℕ)
-      → IsElsewhere g.lane (next_pointer_at base g.header) g.first (chunk_pages (chunk_count base g.header)) w
-      → w ≢ g.header
-      → IsOutsidePages g.first (chunk_pages (chunk_count base g.header)) w → slice_index words w ≡ slice_index base w
+  pub others : (w : ℕ) → IsElsewhere g.lane (next_pointer_at base g.header) g.first (grown_pages base g) w
+      → w ≢ g.header → IsOutsidePages g.first (grown_pages base g) w → slice_index words w ≡ slice_index base w
 
 -- the live blocks are those after the growth, and the chunk's pointer stands behind the published ones
 pub record HasChunk (base : List ℕ) (g : Growth) (words : List ℕ) : Type 0 where

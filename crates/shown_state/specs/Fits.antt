@@ -55,12 +55,19 @@ undecided_bound words table =
 abbrev pub used_up : List ℕ → ℕ → ℕ
 used_up words table = max (slice_index words (high_at (table_block words table))) (undecided_bound words table)
 
--- the words for the commit that created a row, and for the one that ended it
+-- the arrays of a table with a word for the commit that created each row, and for the one that ended it
+abbrev pub creators_of : List ℕ → ℕ → ℕ
+creators_of words table = created_header (table_block words table)
+
+abbrev pub enders_of : List ℕ → ℕ → ℕ
+enders_of words table = ended_header (table_block words table)
+
+-- these words of a row
 abbrev pub creator : List ℕ → ℕ → ℕ → ℕ
-creator words table row = array_word words (created_header (table_block words table)) row
+creator words table row = array_word words (creators_of words table) row
 
 abbrev pub ender : List ℕ → ℕ → ℕ → ℕ
-ender words table row = array_word words (ended_header (table_block words table)) row
+ender words table row = array_word words (enders_of words table) row
 
 -- a row was created by no commit, or it is dead, or it was by one; or opening takes that back
 abbrev pub CreatorFits : List ℕ → ℕ → ℕ → Type 0
@@ -88,20 +95,24 @@ pub record HasValue (words : List ℕ) (row column : ℕ) : Type 0 where
   pub published : row < capacity words (codes_header column)
   pub known : array_word words (codes_header column) row < dictionary_length words column
 
+-- each row that a commit created has its values, in the columns that have words for it
+abbrev pub HasValues : List ℕ → ℕ → Type 0
+HasValues words table =
+    (row : ℕ) → row < capacity words (creators_of words table)
+    → 1 ≤ creator words table row → creator words table row ≤ last_commit words
+    → All (HasValue words row) (columns_with words (table_block words table) row)
+
 -- The rows of a table: each row that was given out is used up, or will be; there are words for the stamps of those; no
 -- column begins above the bound; and each stamp is that of a commit, or opening takes it back.
 pub record RowsFit (words : List ℕ) (table : ℕ) : Type 0 where
   pub rows : next_row_of words table ≤ used_up words table
-  pub created_room : used_up words table ≤ capacity words (created_header (table_block words table))
-  pub ended_room : used_up words table ≤ capacity words (ended_header (table_block words table))
+  pub created_room : used_up words table ≤ capacity words (creators_of words table)
+  pub ended_room : used_up words table ≤ capacity words (enders_of words table)
   pub begun : All (λ column. since_of words column ≤ slice_index words (high_at (table_block words table)))
       (columns_of words (table_block words table))
-  pub created : (row : ℕ) → row < capacity words (created_header (table_block words table))
-      → CreatorFits words table row
-  pub ended : (row : ℕ) → row < capacity words (ended_header (table_block words table)) → EnderFits words table row
-  pub values : (row : ℕ) → row < capacity words (created_header (table_block words table)) → 1 ≤ creator words table row
-      → creator words table row ≤ last_commit words
-      → All (HasValue words row) (columns_with words (table_block words table) row)
+  pub created : (row : ℕ) → row < capacity words (creators_of words table) → CreatorFits words table row
+  pub ended : (row : ℕ) → row < capacity words (enders_of words table) → EnderFits words table row
+  pub values : HasValues words table
 
 -- ── all of it ──
 

@@ -27,24 +27,34 @@ pub record LaneFits (words : List ℕ) (lane : ℕ) : Type 0 where
 
 -- ── splits ──
 
+-- what a column's split log says: the words of the leaf that is split and of the new one, and the places that they name
+abbrev pub split_word : List ℕ → ℕ → ℕ
+split_word words column = slice_index words (split_leaf_at column)
+
+abbrev pub new_word : List ℕ → ℕ → ℕ
+new_word words column = slice_index words (new_leaf_at column)
+
+abbrev pub split_leaf : List ℕ → ℕ → ℕ
+split_leaf words column = place_in (split_word words column)
+
+abbrev pub new_leaf : List ℕ → ℕ → ℕ
+new_leaf words column = place_in (new_word words column)
+
 -- A column's split log. A leaf that is still full isn't linked to the new one. A new leaf that is about to be linked
 -- goes on where the leaf that was split does. A new leaf without one that is split is the first leaf, or there is none
 -- yet; and with one it isn't the first leaf.
 pub record SplitFits (words : List ℕ) (column : ℕ) : Type 0 where
-  pub unlinked : slice_index words (split_leaf_at column) ≢ 0 → slice_index words (new_leaf_at column) ≢ 0
-      → is_full_leaf words (place_in (slice_index words (split_leaf_at column))) ≡ true
-      → slice_index words (next_leaf_at (place_in (slice_index words (split_leaf_at column)))) ≢ slice_index words
-      (new_leaf_at column)
+  pub unlinked : split_word words column ≢ 0 → new_word words column ≢ 0
+      → is_full_leaf words (split_leaf words column) ≡ true
+      → slice_index words (next_leaf_at (split_leaf words column)) ≢ new_word words column
   pub goes_on : is_about_to_link words column ≡ true
-      → slice_index words (next_leaf_at (place_in (slice_index words (new_leaf_at column))))
-      ≡ slice_index words (next_leaf_at (place_in (slice_index words (split_leaf_at column))))
-  pub bitmap : is_about_to_link words column ≡ true
-      → slice_index words (place_in (slice_index words (new_leaf_at column))) < 2 ^ 48
-  pub first : slice_index words (split_leaf_at column) ≡ 0 → slice_index words (new_leaf_at column) ≢ 0
-      → slice_index words (first_leaf_at column) ≢ 0
-      → slice_index words (first_leaf_at column) ≡ slice_index words (new_leaf_at column)
-  pub later : slice_index words (split_leaf_at column) ≢ 0 → slice_index words (new_leaf_at column) ≢ 0
-      → slice_index words (first_leaf_at column) ≢ slice_index words (new_leaf_at column)
+      → slice_index words (next_leaf_at (new_leaf words column))
+      ≡ slice_index words (next_leaf_at (split_leaf words column))
+  pub bitmap : is_about_to_link words column ≡ true → slice_index words (new_leaf words column) < 2 ^ 48
+  pub first : split_word words column ≡ 0 → new_word words column ≢ 0 → slice_index words (first_leaf_at column) ≢ 0
+      → slice_index words (first_leaf_at column) ≡ new_word words column
+  pub later : split_word words column ≢ 0 → new_word words column ≢ 0
+      → slice_index words (first_leaf_at column) ≢ new_word words column
 
 -- ── all of them ──
 

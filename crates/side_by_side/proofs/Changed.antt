@@ -1,9 +1,8 @@
 -- The law of a change gives the law of its plan beside others.
-use Rattle.std.proofs.Common.{◌≡◌, ℕ, ◌+◌, ◌-◌, ◌<◌, Bool, List, [], ◌∷◌, ◌++◌, length, subst, sym, refl, arith}
+use Rattle.std.proofs.Common.{◌≡◌, ℕ, ◌-◌, ◌<◌, Bool, List, [], ◌∷◌, length, subst, sym, arith}
 use Rattle.std.proofs.lemmas.List.{length-append}
 use Rattle.pm_model.specs.Plans.{Part, IsPlan, EachCut, EachMoment, words_after, finished, plan_of, part_actions}
 use Rattle.pm_model.specs.Changes.{Change, HoldsOnWords}
-use Rattle.pm_model.proofs.Cuts.{each_cut-map}
 use Rattle.pm_model.proofs.PlanLaw.{moments-each_cut}
 use Rattle.side_by_side.specs.SideBySide.{SurvivesBeside}
 use Rattle.side_by_side.specs.Beside.{RestsOn, CutsGive, EndGives}

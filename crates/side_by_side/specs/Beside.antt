@@ -24,8 +24,8 @@ EndGives c session P Q base =
 
 -- The change has its law on words and is asked of these words; what it reads stands at these places or follows from P,
 -- and what its cuts and its end show gives Q.
-pub record IsKeptBeside (c : Change) (session : ℕ) (P Q : (ℕ → ℕ) → List ℕ → Type 0) (places : ℕ → Bool) (base : List ℕ) :
-    Type 0 where
+pub record IsKeptBeside (c : Change) (session : ℕ) (P Q : (ℕ → ℕ) → List ℕ → Type 0) (places : ℕ → Bool)
+    (base : List ℕ) : Type 0 where
   pub law : HoldsOnWords c
   pub asked : c.asks base
   pub rests : RestsOn c session P places base
