@@ -1,5 +1,5 @@
--- An image with two lanes at work, written out, whose owner words are apart and whose opening ends sound, but whose logs
--- don't fit: a power cut after the first store of its opening leaves an owner word that names no block.
+-- An image with two lanes at work, written out, whose owner words are apart and whose opening ends sound, but whose
+-- logs don't fit: a power cut after the first store of its opening leaves an owner word that names no block.
 use Rattle.std.specs.Prelude.{◌≡◌, ℕ, List, ◌∷◌, ◌++◌, replicate}
 use Rattle.image_layout.specs.EntryRules.{KeepsEntryRules}
 use Rattle.image_layout.specs.Fresh.{magic_number}

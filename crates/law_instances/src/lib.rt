@@ -9,8 +9,8 @@
 //!
 //! Laws: `transaction_law` (a begin, an entry and a retire, each over the words that the one before it leaves),
 //! `creation_law` (the first table), `consistency_law` (the states of a store's histories), `written_images_law` (sound
-//! and intact images, word by word, and what may grow in them), `logs_law` (an image whose opening ends sound, and a cut
-//! of whose opening doesn't).
+//! and intact images, word by word, and what may grow in them), `logs_law` (an image whose opening ends sound, and a
+//! cut of whose opening doesn't).
 #![tactic(auto)]
 
 mod laws;

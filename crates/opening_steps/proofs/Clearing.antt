@@ -20,7 +20,7 @@ use Rattle.shown_state.specs.StepLaws.{AreClear, ClearsKeep}
 use Rattle.shown_state.proofs.ReadsStand.{reads_keep_off}
 use Rattle.opening_steps.specs.QuietImages.{StaysQuiet}
 use Rattle.opening_steps.proofs.Closer.{closer_stays, IsCloser, last_same, undecided_same}
-use Rattle.opening_steps.proofs.Idle.{KeepsStamps, MayChange, places}
+use Rattle.opening_steps.proofs.Beside.{KeepsStamps, MayChange, places}
 use Rattle.opening_steps.proofs.NoneNew.{entry_apart, entry_behind, entry_word, none_new}
 use Rattle.opening_steps.proofs.ObjectWords.{IsObjectWord, objects_keep_stamps, objects_may_change, objects_only, of_own}
 use Rattle.opening_steps.proofs.Objects.{entry_places_same}
@@ -58,10 +58,10 @@ module _ (words : List ℕ) (object : ℕ) (image : IsImage words) (number : obj
     pub which : Contains spots place ⊎ (place ≡ commit_word_at object)
 
   may : MayChange words (IsObjectWord words)
-  may = objects_may_change words fits has.0.0.0
+  may = objects_may_change words fits
 
   stamps : KeepsStamps words (IsObjectWord words)
-  stamps = objects_keep_stamps words fits has.0.0.0
+  stamps = objects_keep_stamps words fits
 
   own : (place : ℕ) → Contains spots place ⊎ (place ≡ commit_word_at object) → IsObjectWord words place
   own place which = ⊎_elim (λ entry. entry_word words object place number entry)
@@ -98,7 +98,7 @@ module _ (words : List ℕ) (object : ℕ) (image : IsImage words) (number : obj
 
     closer : IsCloser (IsObjectWord words) words cut
     closer = record {
-      only = objects_only words fits has.0.0.0 cut between.size (λ w. ⊎_elim (λ e. inl e) (λ cleared. inr (own w cleared.which)) (word_of_cut w));
+      only = objects_only words fits cut between.size (λ w. ⊎_elim (λ e. inl e) (λ cleared. inr (own w cleared.which)) (word_of_cut w));
       last = other last_at low (λ e. omega (arith, e)) ∙ has.0.0.1;
       states = λ one lt. inl (state_other one lt);
       commits = λ one lt. ⊎_elim (λ e. inl e) (λ cleared. inr cleared.none) (word_of_cut (commit_word_at one));
@@ -138,7 +138,7 @@ module _ (words : List ℕ) (object : ℕ) (image : IsImage words) (number : obj
   cleared : AreClear (object + 1) cleared_words
   cleared =
       let now = closer cleared_words at_end in
-      let same = places words cleared_words (IsObjectWord words) image fits has.0.0.0 may now.only in (
+      let same = places words cleared_words (IsObjectWord words) image fits may now.only in (
         (
           (
             none_new words cleared_words (IsObjectWord words) image fits has.0.0.0 may now.only,

@@ -24,7 +24,7 @@ use Rattle.shown_state.specs.StepLaws.{HaveNoNew}
 use Rattle.shown_state.proofs.Alike.{filter_below, map_alike}
 use Rattle.shown_state.proofs.SameTables.{created_is, ended_is, IsHeader}
 use Rattle.opening_steps.proofs.Fitting.{still_fits, TransactionsFit}
-use Rattle.opening_steps.proofs.Idle.{ChangesOnly, KeepsStamps, MayChange, places}
+use Rattle.opening_steps.proofs.Beside.{ChangesOnly, KeepsStamps, MayChange, places}
 use Rattle.opening_steps.specs.QuietImages.{StaysQuiet}
 use Rattle.opening_steps.proofs.NoneNew.{none_new}
 use Rattle.opening_steps.proofs.Objects.{entry_places_same}
@@ -112,7 +112,7 @@ open_least words object lt = fold_max-each (get_or words last_at 0) (map (open_c
 module _ (old new : List ℕ) (changed : ℕ → Type 0) (image : IsImage old) (fits : Fits old) (clear : HaveNoNew 512 old)
     (may : MayChange old changed) (stamps : KeepsStamps old changed) (closer : IsCloser changed old new) where
   same : SamePlaces old new
-  same = places old new changed image fits clear may closer.only
+  same = places old new changed image fits may closer.only
 
   -- ── the last commit ──
 
@@ -282,7 +282,7 @@ module _ (old new : List ℕ) (changed : ℕ → Type 0) (image : IsImage old) (
   pub closer_stays : StaysQuiet old new
   closer_stays = record {
     still = record {
-      fits = still_fits old new changed image fits clear may closer.only transactions;
+      fits = still_fits old new changed image fits may closer.only transactions;
       shows = state_same old new same fits.entry.arrays fits.codes alike fits.rows;
     };
     quiet = none_new old new changed image fits clear may closer.only;

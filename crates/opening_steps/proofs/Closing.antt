@@ -13,7 +13,7 @@ use Rattle.shown_state.specs.OpeningParts.{IsImage}
 use Rattle.shown_state.specs.StepLaws.{AreClosed, ClosesKeep}
 use Rattle.opening_steps.specs.QuietImages.{StaysQuiet}
 use Rattle.opening_steps.proofs.Closer.{closer_stays, IsCloser, last_same, state_low, undecided_same}
-use Rattle.opening_steps.proofs.Idle.{KeepsStamps, MayChange}
+use Rattle.opening_steps.proofs.Beside.{KeepsStamps, MayChange}
 use Rattle.opening_steps.proofs.NoneNew.{entry_apart, none_new}
 use Rattle.opening_steps.proofs.ObjectWords.{IsObjectWord, objects_keep_stamps, objects_may_change, objects_only, of_own}
 use Rattle.opening_steps.proofs.Steps.{as_it_is, step_by, step_keeps, StepStays}
@@ -49,7 +49,7 @@ module _ (words : List ℕ) (object : ℕ) (image : IsImage words) (number : obj
 
   closer : IsCloser (IsObjectWord words) words stored
   closer = record {
-    only = objects_only words fits has.0.0 stored (length-set words at 0)
+    only = objects_only words fits stored (length-set words at 0)
         (λ w. ⊎_elim (λ e. inr (of_own object 0 number (omega arith) (λ two. omega (arith, two)) (λ three. omega (arith, three)) e)) (λ apart. inl (other w apart)) (cases_eq w at));
     last = other last_at (λ e. omega (arith, e)) ∙ has.0.1;
     states = λ one lt. ⊎_elim (λ (e : one ≡ object). inr (ap (λ (o : ℕ). get_or stored (state_at o) 0) e ∙ here)) (λ apart. inl (state_other one apart)) (cases_eq one object);
@@ -63,10 +63,10 @@ module _ (words : List ℕ) (object : ℕ) (image : IsImage words) (number : obj
   }
 
   may : MayChange words (IsObjectWord words)
-  may = objects_may_change words fits has.0.0
+  may = objects_may_change words fits
 
   stamps : KeepsStamps words (IsObjectWord words)
-  stamps = objects_keep_stamps words fits has.0.0
+  stamps = objects_keep_stamps words fits
 
   still : StaysQuiet words stored
   still = closer_stays words stored (IsObjectWord words) image fits has.0.0 may stamps closer

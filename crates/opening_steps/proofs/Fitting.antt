@@ -11,14 +11,11 @@ use Rattle.image_layout.specs.Tables.{columns_of, is_first_version, since_of, ta
 use Rattle.image_layout.proofs.Faults.{Holds}
 use Rattle.image_layout.proofs.Members.{below-Contains, map-Contains}
 use Rattle.image_layout.proofs.OwnersApart.{all_from}
-use Rattle.image_layout.proofs.TableSlots.{few_tables}
 use Rattle.shown_state.specs.Fits.{BeginsFirst, Fits, RowsFit}
 use Rattle.shown_state.specs.OpeningParts.{IsImage}
-use Rattle.shown_state.specs.StepLaws.{HaveNoNew}
 use Rattle.shown_state.proofs.SameValueRules.{column_among}
-use Rattle.opening_steps.proofs.Idle.{ChangesOnly, heap_rules, held, given_kept, lanes_kept, later_kept, logs, MayChange, owners_apart, owners_kept, places, slots_null}
+use Rattle.opening_steps.proofs.Beside.{ChangesOnly, heap_rules, held, given_kept, lanes_kept, later_kept, logs, MayChange, owners_apart, owners_kept, places, table_slots}
 use Rattle.opening_steps.proofs.ReadRules.{arrays_rule_same}
-use Rattle.opening_steps.proofs.Slots.{null_slot, slots_kept}
 use Rattle.opening_steps.proofs.Structure.{of_table, same_prints, SamePlaces, same_tree}
 use Rattle.opening_steps.proofs.Tables.{block_same, columns_same, count_same, since_same}
 use Rattle.opening_steps.proofs.TreeRules.{code_rule_same, fingerprint_rule_same, order_rule_same, text_key_rule_same, text_rule_same, tree_rule_same}
@@ -54,11 +51,11 @@ pub record TransactionsFit (old new : List ℕ) : Type 0 where
   pub entries : Keeps new entries_rule
   pub rows : (table : ℕ) → table < table_count old → RowsFit new table
 
-pub still_fits : (old new : List ℕ) (changed : ℕ → Type 0) → IsImage old → Fits old → HaveNoNew 512 old → MayChange old changed → ChangesOnly changed old new → TransactionsFit old new → Fits new
-still_fits old new changed image fits clear may only said =
-    let same = places old new changed image fits clear may only in
+pub still_fits : (old new : List ℕ) (changed : ℕ → Type 0) → IsImage old → Fits old → MayChange old changed → ChangesOnly changed old new → TransactionsFit old new → Fits new
+still_fits old new changed image fits may only said =
+    let same = places old new changed image fits may only in
     let tree = same_tree old new same in
-    let heap = heap_rules old new changed image fits clear may only in
+    let heap = heap_rules old new changed image fits may only in
     let trees = fits.entry.trees in
     let arrays = fits.entry.arrays in
     let count = count_same old new same in
@@ -71,8 +68,8 @@ still_fits old new changed image fits clear may only said =
         reserved = heap.reserved;
         descriptors = heap.descriptors;
         bitmaps = heap.bitmaps;
-        lanes = lanes_kept old new changed image fits clear may only;
-        table_slots = slots_kept old new same only.version fits.first (few_tables old fits.entry.table_count) fits.entry.table_slots (λ table le lt. null_slot old new same table le (slots_null old new changed image fits clear may only table le lt));
+        lanes = lanes_kept old new changed image fits may only;
+        table_slots = table_slots old new changed image fits may only;
         arrays = kept_by old new _ (arrays_rule_same old new same) arrays;
         trees = kept_by old new _ (tree_rule_same old new same tree trees) trees;
         names = names_kept old new same only.version fits.first fits.entry.names;
@@ -80,16 +77,16 @@ still_fits old new changed image fits clear may only said =
         objects = said.objects;
         entries = said.entries;
       };
-      apart = owners_apart old new changed image fits clear may only;
-      logs = logs old new changed image fits clear may only;
-      held = held old new changed image fits clear may only;
-      owners = owners_kept old new changed image fits clear may only;
+      apart = owners_apart old new changed image fits may only;
+      logs = logs old new changed image fits may only;
+      held = held old new changed image fits may only;
+      owners = owners_kept old new changed image fits may only;
       order = kept_by old new _ (order_rule_same old new same tree trees arrays fits.codes) fits.order;
       fingerprints = kept_by old new _ (fingerprint_rule_same old new same tree trees arrays fits.codes (same_prints old new same)) fits.fingerprints;
       codes = kept_by old new _ (code_rule_same old new same tree trees arrays fits.codes) fits.codes;
       texts = kept_by old new _ (text_rule_same old new same tree trees arrays fits.codes) fits.texts;
-      later_slots = later_kept old new changed image fits clear may only;
-      given_back = given_kept old new changed image fits clear may only;
+      later_slots = later_kept old new changed image fits may only;
+      given_back = given_kept old new changed image fits may only;
       names = kept_by old new _ (distinct_names_same old new same) fits.names;
       rows = λ table lt. said.rows table (omega (arith, lt, count));
       first = λ version table lt. begins_first old new fits same only.version version table (omega (arith, lt, count));

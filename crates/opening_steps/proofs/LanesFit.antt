@@ -1,8 +1,8 @@
 -- An image that a cut of the mending of a lane leaves fits as the words did, and shows the same.
-use Rattle.std.proofs.Common.{◌≡◌, ◌≢◌, ◌⊎◌, inl, inr, ⊎_elim, ℕ, ◌+◌, ◌-◌, ◌%◌, ◌^◌, ◌<◌, ◌≤◌, Bool, true, false, not, ◌&&◌, ◌||◌, eqb, leb, ltb, List, [], ◌∷◌, length, get_or, map, refl, sym, ◌∙◌, ap, subst, arith}
+use Rattle.std.proofs.Common.{◌≡◌, ◌≢◌, ◌⊎◌, inl, inr, ⊎_elim, ℕ, ◌+◌, ◌%◌, ◌<◌, ◌≤◌, Bool, true, not, ◌&&◌, ◌||◌, eqb, leb, ltb, List, [], ◌∷◌, length, get_or, map, refl, sym, ◌∙◌, ap, subst, arith}
 use Rattle.std.specs.Prelude.{All, AllPairs, Contains, IsTrue, filter}
 use Rattle.std.specs.List.{flat_map, list_any, range_with_len}
-use Rattle.std.proofs.lemmas.Bool.{and_from, and_parts, both_ways, cases_Bool, cases_eq, cond-true, eq-eqb, eqb-true, ne_eqb, not-true, or_cases, or_left, or_right}
+use Rattle.std.proofs.lemmas.Bool.{and_from, and_parts, both_ways, cases_Bool, cases_eq, eq-eqb, eqb-true, ne_eqb, not-true, or_cases, or_left, or_right}
 use Rattle.std.proofs.lemmas.List.Elements.{All-contains, Contains-append_cases, Contains-append_left, Contains-append_right, Contains-get_or}
 use Rattle.std.proofs.lemmas.List.FromFn.{get_or-range_with_len, length-range_with_len}
 use Rattle.image_layout.specs.Blocks.{Block, descriptor_of, is_block_pointer, is_given_back, is_inside, is_live, is_small_page, live_blocks, says_small}
@@ -16,10 +16,9 @@ use Rattle.image_layout.specs.Pointer.{pointer_word}
 use Rattle.image_layout.specs.Records.{first_leaf_at, new_leaf_at, next_leaf_at, split_leaf_at}
 use Rattle.image_layout.specs.SoundRules.{given_back_rule, owner_rule, zero_check}
 use Rattle.image_layout.specs.Tables.{all_columns, table_count}
-use Rattle.image_layout.specs.Trees.{is_about_to_link, leaf_list, put_behind, stored_leaves}
 use Rattle.image_layout.proofs.Faults.{Holds, mapped_hold}
 use Rattle.image_layout.proofs.Heap.{small_class}
-use Rattle.image_layout.proofs.Members.{below-Contains, Contains-below, Contains-cons, Contains-filter, Contains-flat_map, Contains-here, Contains-map, Contains-nil, Contains-there, filter-Contains, flat_map-Contains, map-Contains}
+use Rattle.image_layout.proofs.Members.{below-Contains, Contains-below, Contains-cons, Contains-filter, Contains-flat_map, Contains-map, Contains-nil, filter-Contains, flat_map-Contains, map-Contains}
 use Rattle.image_layout.proofs.OwnersApart.{all_from, live_at}
 use Rattle.image_layout.proofs.Precedes.{pair_of, precedes_filter}
 use Rattle.image_layout.proofs.TableSlots.{few_tables}
@@ -36,26 +35,18 @@ use Rattle.shown_state.specs.Reads.{in_column, in_head, in_leaf, SameReads}
 use Rattle.shown_state.proofs.Alike.{any_members}
 use Rattle.shown_state.proofs.LaneMending.{at_work, AtWork, block_pointer, pointer_parts}
 use Rattle.shown_state.proofs.ReadLaw.{reads_decide, reads_fit}
-use Rattle.shown_state.proofs.SameLeaves.{split_stored, stored_listed}
 use Rattle.shown_state.proofs.SameTreeRules.{pointer_is_same}
 use Rattle.shown_state.proofs.Walks.{pointers_name_their_place}
 use Rattle.opening_steps.specs.QuietImages.{StaysPlain}
-use Rattle.opening_steps.proofs.Idle.{null_behind}
+use Rattle.opening_steps.proofs.Beside.{null_behind}
 use Rattle.opening_steps.proofs.LaneSpots.{block_kept, firm_kept, heap_rules, IsLaneWrite, lane_word, the_mark, the_op, the_owner, op_kept, owner_kept, owner_word_kept, precedes_at, precedes_whole, reads_same, same_places, spot_kept, target_spot}
 use Rattle.opening_steps.proofs.NextSlots.{later_slots_same, later_spot, next_slot, slot_still_is}
 use Rattle.opening_steps.proofs.Shrinks.{HeapShrinks}
 use Rattle.opening_steps.proofs.Slots.{null_slot, slots_kept}
 use Rattle.opening_steps.proofs.SplitLogs.{no_split_kept}
+use Rattle.opening_steps.proofs.SplitsFit.{split_fits}
 use Rattle.opening_steps.proofs.Structure.{SamePlaces}
 use Rattle.opening_steps.proofs.Versions.{same_version}
-
-behind_it : (leaf other : ℕ) (leaves : List ℕ) → Contains leaves leaf → Contains (put_behind leaf other leaves) other
-behind_it leaf other [] is = absurd (Contains-nil leaf is)
-behind_it leaf other (first ∷ leaves) is = ⊎_elim
-    (λ (hit : eqb first leaf ≡ true). rw hit (Contains-there first other (other ∷ leaves) (Contains-here other leaves)))
-    (λ (miss : eqb first leaf ≡ false). rw miss (Contains-there first other (put_behind leaf other leaves)
-    (behind_it leaf other leaves (⊎_elim (λ (here : first ≡ leaf). absurd (both_ways (eqb first leaf) miss (eq-eqb first leaf here))) (λ there. there) (Contains-cons first leaf leaves is)))))
-    (cases_Bool (eqb first leaf))
 
 any_true : {X : Type 0} (test : X → Bool) (xs : List X) (x : X) → Contains xs x → test x ≡ true → list_any test xs ≡ true
 any_true test [] x is hit = absurd (Contains-nil x is)
@@ -63,22 +54,6 @@ any_true {X} test (first ∷ xs) x is hit = ⊎_elim
     (λ (here : first ≡ x). or_left (test first) (list_any test xs) (subst (λ (y : X). test y ≡ true) (sym here) hit))
     (λ later. or_right (test first) (list_any test xs) (any_true test xs x later hit))
     (Contains-cons first x xs is)
-
--- the new leaf of a split that is about to link is in the list
-fresh_listed : (words : List ℕ) → Fits words → (column : ℕ) → Contains (all_columns words) column → is_about_to_link words column ≡ true → Contains (leaf_list words column) (place_in (get_or words (new_leaf_at column) 0))
-unfolding leaf_list
-fresh_listed words fits column is about =
-    let leaf = place_in (get_or words (split_leaf_at column) 0) in
-    let fresh = place_in (get_or words (new_leaf_at column) 0) in
-    subst (λ (xs : List ℕ). Contains xs fresh) (sym (cond-true (is_about_to_link words column) (put_behind leaf fresh (stored_leaves words column)) (stored_leaves words column) about))
-    (behind_it leaf fresh (stored_leaves words column) (split_stored words fits.entry.trees column is split))
-  where
-    split : get_or words (split_leaf_at column) 0 ≢ 0
-    split none =
-        let three = (and_parts _ _ about).0 in
-        let two = (and_parts _ _ three).0 in
-        let one = (and_parts _ _ two).0 in
-        both_ways (eqb (get_or words (split_leaf_at column) 0) 0) (not-true (eqb (get_or words (split_leaf_at column) 0) 0) one) (eq-eqb (get_or words (split_leaf_at column) 0) 0 none)
 
 -- What a cut of the mending of a lane at work leaves: a block may be gone, which is the lane's, and then its owner's word
 -- doesn't name it; and once the lane is idle the block is gone, or named. Of the block that a lane still at work has, and of one
@@ -408,85 +383,9 @@ module _ (old new : List ℕ) (lane : ℕ) (gone : ℕ → Type 0) (image : IsIm
       let was = All-contains (SlotFits old) (unfinished_slots old) at fits.logs.slots is (λ none. some (kept ∙ none)) (omega (arith, big, place)) in
       subst (λ (p : ℕ). BeginsPages new (page_of p)) (sym place) (begins_kept (page_of (place_in (get_or old at 0))) was)
 
-  split_fits : (column : ℕ) → Contains (all_columns old) column → SplitFits new column
-  split_fits column is = record {
-    unlinked = λ split fresh full linked.
-        let split_old : leaf ≢ 0 = λ none. split (leaf_kept ∙ none) in
-        let bitmap = at_leaf split_old in
-        was.unlinked split_old (λ none. fresh (new_kept ∙ none))
-        (ap (λ (w : ℕ). eqb w (2 ^ 48 - 1)) (sym (ap (λ (l : ℕ). get_or new (place_in l) 0) leaf_kept ∙ bitmap)) ∙ full)
-        (sym (ap (λ (l : ℕ). get_or new (next_leaf_at (place_in l)) 0) leaf_kept ∙ at_next split_old) ∙ linked ∙ new_kept);
-    goes_on = λ about. let was_about = back about in
-        ap (λ (l : ℕ). get_or new (next_leaf_at (place_in l)) 0) new_kept ∙ fresh_word was_about 1 (omega arith) ∙ was.goes_on was_about
-        ∙ sym (ap (λ (l : ℕ). get_or new (next_leaf_at (place_in l)) 0) leaf_kept ∙ at_next (some_split was_about));
-    bitmap = λ about.
-        let was_about = back about in
-        let low = was.bitmap was_about in
-        let word = ap (λ (l : ℕ). get_or new (place_in l) 0) new_kept ∙ ap (λ (p : ℕ). get_or new p 0) (sym (add_zero (place_in fresh_leaf))) ∙ fresh_word was_about 0 (omega arith) ∙ ap (λ (p : ℕ). get_or old p 0) (add_zero (place_in fresh_leaf)) in
-        omega (arith, low, word);
-    first = λ none some first. first_kept ∙ was.first (sym leaf_kept ∙ none) (λ e. some (new_kept ∙ e)) (λ e. first (first_kept ∙ e)) ∙ sym new_kept;
-    later = λ split some named. was.later (λ e. split (leaf_kept ∙ e)) (λ e. some (new_kept ∙ e)) (sym first_kept ∙ named ∙ new_kept);
-  }
-    where
-      was : SplitFits old column
-      was = All-contains (SplitFits old) (all_columns old) column fits.logs.splits is
-
-      leaf : ℕ
-      leaf = get_or old (split_leaf_at column) 0
-
-      fresh_leaf : ℕ
-      fresh_leaf = get_or old (new_leaf_at column) 0
-
-      leaf_kept : get_or new (split_leaf_at column) 0 ≡ get_or old (split_leaf_at column) 0
-      leaf_kept = same.each (split_leaf_at column) (in_column column 5 is (omega arith) refl)
-
-      new_kept : get_or new (new_leaf_at column) 0 ≡ get_or old (new_leaf_at column) 0
-      new_kept = same.each (new_leaf_at column) (in_column column 6 is (omega arith) refl)
-
-      first_kept : get_or new (first_leaf_at column) 0 ≡ get_or old (first_leaf_at column) 0
-      first_kept = same.each (first_leaf_at column) (in_column column 4 is (omega arith) refl)
-
-      listed : leaf ≢ 0 → Contains (leaf_list old column) (place_in leaf)
-      listed some = stored_listed old column (place_in leaf) (split_stored old fits.entry.trees column is some)
-
-      at_leaf : leaf ≢ 0 → get_or new (place_in leaf) 0 ≡ get_or old (place_in leaf) 0
-      at_leaf some = same.each (place_in leaf) (in_leaf column (place_in leaf) is (listed some) (omega arith) (omega arith))
-
-      at_next : leaf ≢ 0 → get_or new (next_leaf_at (place_in leaf)) 0 ≡ get_or old (next_leaf_at (place_in leaf)) 0
-      at_next some = same.each (next_leaf_at (place_in leaf)) (in_leaf column (place_in leaf) is (listed some) (omega arith) (omega arith))
-
-      add_zero : (n : ℕ) → n + 0 ≡ n
-      add_zero n = omega arith
-
-      some_split : is_about_to_link old column ≡ true → leaf ≢ 0
-      some_split about none =
-          let three = (and_parts _ _ about).0 in
-          let two = (and_parts _ _ three).0 in
-          let one = (and_parts _ _ two).0 in
-          both_ways (eqb leaf 0) (not-true (eqb leaf 0) one) (eq-eqb leaf 0 none)
-
-      new_split : is_about_to_link new column ≡ true → leaf ≢ 0
-      new_split about none =
-          let three = (and_parts _ _ about).0 in
-          let two = (and_parts _ _ three).0 in
-          let one = (and_parts _ _ two).0 in
-          both_ways (eqb (get_or new (split_leaf_at column) 0) 0) (not-true (eqb (get_or new (split_leaf_at column) 0) 0) one) (eq-eqb (get_or new (split_leaf_at column) 0) 0 (leaf_kept ∙ none))
-
-      -- it is about to link only if it was
-      back : is_about_to_link new column ≡ true → is_about_to_link old column ≡ true
-      back about =
-          let says : ℕ → ℕ → ℕ → ℕ → Bool = λ split fresh bitmap next. not (eqb split 0) && not (eqb fresh 0) && not (eqb bitmap (2 ^ 48 - 1)) && not (eqb next fresh) in
-          let bitmap : ℕ → ℕ = λ split. get_or new (place_in split) 0 in
-          let next : ℕ → ℕ = λ split. get_or new (next_leaf_at (place_in split)) 0 in
-          let some = new_split about in
-          sym (ap (λ (l : ℕ). says l (get_or new (new_leaf_at column) 0) (bitmap l) (next l)) leaf_kept
-          ∙ ap (λ (f : ℕ). says leaf f (bitmap leaf) (next leaf)) new_kept
-          ∙ ap (λ (b : ℕ). says leaf fresh_leaf b (next leaf)) (at_leaf some)
-          ∙ ap (says leaf fresh_leaf (get_or old (place_in leaf) 0)) (at_next some))
-          ∙ about
-
-      fresh_word : is_about_to_link old column ≡ true → (word : ℕ) → word < 8 → get_or new (place_in fresh_leaf + word) 0 ≡ get_or old (place_in fresh_leaf + word) 0
-      fresh_word about word few = same.each (place_in fresh_leaf + word) (in_leaf column (place_in fresh_leaf) is (fresh_listed old fits column is about) (omega arith) (omega (arith, few)))
+  splits_fit : (column : ℕ) → Contains (all_columns old) column → SplitFits new column
+  splits_fit column is = split_fits old new fits column is (λ word few. same.each (column + word) (in_column column word is few refl))
+      (λ leaf w listed low high. same.each w (in_leaf column leaf is listed low high))
 
   logs : LogsFit new
   logs = record {
@@ -494,7 +393,7 @@ module _ (old new : List ℕ) (lane : ℕ) (gone : ℕ → Type 0) (image : IsIm
     blocks = pairs_kept (λ l other. lane_block old l ≢ lane_block old other) (λ l other. lane_block new l ≢ lane_block new other) fits.logs.blocks
         (λ l other lt less apart e. apart (sym (own_block l lt) ∙ e ∙ own_block other less));
     slots = subst (All (SlotFits new)) (sym owned.unfinished) (all_from (SlotFits new) (unfinished_slots old) slot_fits);
-    splits = subst (All (SplitFits new)) (sym read.columns) (all_from (SplitFits new) (all_columns old) split_fits);
+    splits = subst (All (SplitFits new)) (sym read.columns) (all_from (SplitFits new) (all_columns old) splits_fit);
   }
 
   -- ── slots and pages ──

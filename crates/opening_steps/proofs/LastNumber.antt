@@ -13,7 +13,7 @@ use Rattle.shown_state.specs.OpeningParts.{IsImage}
 use Rattle.shown_state.specs.StepLaws.{AreUndone, HaveNoNew, LastKeeps}
 use Rattle.opening_steps.specs.QuietImages.{StaysQuiet}
 use Rattle.opening_steps.proofs.Closer.{closer_stays, IsCloser, last_same}
-use Rattle.opening_steps.proofs.Idle.{KeepsStamps, MayChange}
+use Rattle.opening_steps.proofs.Beside.{KeepsStamps, MayChange}
 use Rattle.opening_steps.proofs.NoneNew.{entry_behind, none_new}
 use Rattle.opening_steps.proofs.ObjectWords.{IsObjectWord, objects_keep_stamps, objects_may_change, objects_only, the_last}
 use Rattle.opening_steps.proofs.Steps.{as_it_is, step_keeps, StepStays}
@@ -42,7 +42,7 @@ module _ (words : List ℕ) (image : IsImage words) (fits : Fits words) (clear :
 
   closer : IsCloser (IsObjectWord words) words stored
   closer = record {
-    only = objects_only words fits clear stored (length-set words last_at number)
+    only = objects_only words fits stored (length-set words last_at number)
         (λ w. ⊎_elim (λ here. inr (the_last here)) (λ apart. inl (other w apart)) (cases_eq w last_at));
     last = get_or-set_same words last_at number 0 inside;
     states = λ object lt. inl (state_other object);
@@ -56,10 +56,10 @@ module _ (words : List ℕ) (image : IsImage words) (fits : Fits words) (clear :
   }
 
   may : MayChange words (IsObjectWord words)
-  may = objects_may_change words fits clear
+  may = objects_may_change words fits
 
   stamps : KeepsStamps words (IsObjectWord words)
-  stamps = objects_keep_stamps words fits clear
+  stamps = objects_keep_stamps words fits
 
   still : StaysQuiet words stored
   still = closer_stays words stored (IsObjectWord words) image fits clear may stamps closer

@@ -1,3 +1,4 @@
+pub mod Beside
 pub mod Clearing
 pub mod Closer
 pub mod Closing
@@ -10,7 +11,6 @@ pub mod LaneSpots
 pub mod LaneStep
 pub mod LanesFit
 pub mod LastNumber
-pub mod LeafHomes
 pub mod NextSlots
 pub mod NoneNew
 pub mod Noted
@@ -27,10 +27,12 @@ pub mod Shrinks
 pub mod SlotStep
 pub mod Slots
 pub mod SplitLogs
+pub mod SplitsFit
 pub mod StampWords
 pub mod Steps
 pub mod Structure
 pub mod Tables
+pub mod Targets
 pub mod TextStep
 pub mod TreeRules
 pub mod Undoing

@@ -15,13 +15,14 @@ use Rattle.shown_state.specs.Fits.{Fits}
 use Rattle.shown_state.specs.OpeningParts.{IsImage}
 use Rattle.shown_state.specs.StepLaws.{HaveNoNew}
 use Rattle.shown_state.proofs.ValuesApart.{segment_behind}
-use Rattle.opening_steps.proofs.Idle.{ChangesOnly, columns_same, lanes_idle, logs_null, MayChange, slot_zero, slots_same}
+use Rattle.opening_steps.proofs.Beside.{ChangesOnly, columns_same, MayChange, slots_same}
+use Rattle.opening_steps.proofs.Idle.{lanes_idle, logs_null, slot_zero}
 use Rattle.opening_steps.proofs.ObjectWords.{IsObjectWord, of_entry, of_own}
 use Rattle.opening_steps.proofs.OwnerPlaces.{Contains-take}
 
 module _ (old new : List ℕ) (changed : ℕ → Type 0) (image : IsImage old) (fits : Fits old) (clear : HaveNoNew 512 old) (may : MayChange old changed) (only : ChangesOnly changed old new) where
   slot_null : (at : ℕ) → Contains (unfinished_slots new) at → get_or new at 0 ≡ 0
-  slot_null at is = slot_zero old new changed image fits clear may only at (subst (λ (xs : List ℕ). Contains xs at) (slots_same old new changed image fits clear may only) is)
+  slot_null at is = slot_zero old new changed image fits clear may only at (subst (λ (xs : List ℕ). Contains xs at) (slots_same old new changed image fits may only) is)
 
   pub none_new : HaveNoNew 512 new
   none_new =
@@ -31,7 +32,7 @@ module _ (old new : List ℕ) (changed : ℕ → Type 0) (image : IsImage old) (
           lanes_idle old new changed image fits clear may only,
           all_from (λ (column : ℕ). (get_or new (split_leaf_at column) 0 ≡ 0) × (get_or new (new_leaf_at column) 0 ≡ 0)) (take 512 columns) (λ column is.
               logs_null old new changed image fits clear may only column
-              (subst (λ (xs : List ℕ). Contains xs column) (columns_same old new changed image fits clear may only) (Contains-take 512 columns column is))),
+              (subst (λ (xs : List ℕ). Contains xs column) (columns_same old new changed image fits may only) (Contains-take 512 columns column is))),
         ),
         all_from (λ (at : ℕ). get_or new at 0 ≡ 0) (next_table_slots new) (λ at is. slot_null at (Contains-append_left (next_table_slots new) texts at is)),
         all_from (λ (column : ℕ). All (λ (at : ℕ). get_or new at 0 ≡ 0) (next_text_slots new column)) (take 512 columns) (λ column is.

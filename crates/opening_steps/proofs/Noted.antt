@@ -39,7 +39,7 @@ use Rattle.shown_state.proofs.SameTreeRules.{pointer_is_same}
 use Rattle.shown_state.proofs.UnfinishedUnread.{unread_may_differ}
 use Rattle.shown_state.proofs.Walks.{pointers_name_their_place}
 use Rattle.opening_steps.specs.QuietImages.{StaysPlain}
-use Rattle.opening_steps.proofs.Idle.{null_behind}
+use Rattle.opening_steps.proofs.Beside.{null_behind}
 use Rattle.opening_steps.proofs.LaneSpots.{place_read, precedes_at, precedes_whole, same_places, slot_spot, slot_target}
 use Rattle.opening_steps.proofs.NextSlots.{later_slots_same, later_spot, slot_still_is}
 use Rattle.opening_steps.proofs.OwnerPlaces.{owner_place}

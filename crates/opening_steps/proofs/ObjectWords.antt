@@ -12,13 +12,11 @@ use Rattle.image_layout.proofs.TableParts.{column_of}
 use Rattle.image_layout.proofs.TableSlots.{few_tables}
 use Rattle.shown_state.specs.Fits.{Fits}
 use Rattle.shown_state.specs.Reads.{in_head, in_object, in_segment, IsRead}
-use Rattle.shown_state.specs.StepLaws.{HaveNoNew}
-use Rattle.shown_state.proofs.LeavesApart.{listed_behind, listed_live}
+use Rattle.shown_state.proofs.LeavesApart.{listed_behind, segment_or_listed}
 use Rattle.shown_state.proofs.SameLeaves.{slot_under}
 use Rattle.shown_state.proofs.SameTables.{IsHeader, codes_is, dictionary_is}
 use Rattle.shown_state.proofs.ValuesApart.{at_behind, chunk_behind, chunk_or_segment, code_published, column_spot, extension_pointer_behind, first_word, header_spot, in_chunk, IsAt, IsInChunk, IsInSegment, IsInText, no_common, one_home, pointer_or_word, segment_behind, segment_home, table_or_segment, text_behind, text_home, word_spot}
-use Rattle.opening_steps.proofs.Idle.{ChangesOnly, KeepsStamps, MayChange}
-use Rattle.opening_steps.proofs.LeafHomes.{leaf_or_segment}
+use Rattle.opening_steps.proofs.Beside.{ChangesOnly, KeepsStamps, MayChange}
 use Rattle.opening_steps.proofs.Versions.{same_version}
 use Rattle.opening_steps.proofs.Structure.{IsPlace, of_codes, of_column, of_dictionary, of_extension, of_head, of_header, of_leaf, of_pair, of_ready, of_segment, of_slot, of_table, of_text}
 
@@ -27,7 +25,7 @@ pub data IsObjectWord (words : List ℕ) (w : ℕ) : Type 0 where
   of_own : (object word : ℕ) → object < 16 → word < 64 → word ≢ 2 → word ≢ 3 → w ≡ object_at object word → IsObjectWord words w
   of_entry : (object segment word : ℕ) → object < 16 → segment < ready_count words object → 0 < word → word < 256 → w ≡ segment_of words object segment + word → IsObjectWord words w
 
-module _ (words : List ℕ) (fits : Fits words) (clear : HaveNoNew 512 words) where
+module _ (words : List ℕ) (fits : Fits words) where
   text_or_segment : (column code object segment w : ℕ) → IsInText words fits column code w → IsInSegment words fits object segment w → ⊥
   text_or_segment column code object segment w one two =
       let place = place_of words (dictionary_header column) code in
@@ -46,11 +44,8 @@ module _ (words : List ℕ) (fits : Fits words) (clear : HaveNoNew 512 words) wh
           (subst (IsInSegment words fits object before) (sym same) (first_word words fits object before two.number (omega (arith, ready))))
 
   -- a word of a leaf is none of a segment
-  leaf_word : (column leaf object segment w : ℕ) → Contains (all_columns words) column → Contains (leaf_list words column) leaf → leaf ≤ w → w < leaf + 128 → IsInSegment words fits object segment w → ⊥
-  leaf_word column leaf object segment w is listed low high s =
-      let home = segment_home words fits object segment w s in
-      no_common words fits leaf 128 (segment_of words object segment) home.size w (listed_live words fits column leaf is listed) home.live
-      (leaf_or_segment words fits clear column leaf object segment is listed s.number s.ready) low high home.low home.high
+  leaf_word : (column leaf object segment w : ℕ) → Contains (all_columns words) column → Contains (leaf_list words column) leaf → leaf ≤ w → w < leaf + 104 → IsInSegment words fits object segment w → ⊥
+  leaf_word column leaf object segment w is listed low high s = segment_or_listed words fits column leaf object segment w is listed s low high
 
   -- the first word of a segment is no later word of one
   first_apart : (object segment other before word w : ℕ) → IsInSegment words fits object segment w → w ≡ segment_of words object segment → IsInSegment words fits other before w → 0 < word → w ≡ segment_of words other before + word → ⊥
@@ -87,7 +82,7 @@ module _ (words : List ℕ) (fits : Fits words) (clear : HaveNoNew 512 words) wh
       in_block (chunk_behind words fits header (chunk_of index) w within) (λ object segment word number ready some few there.
       chunk_or_segment words fits header (chunk_of index) object segment w within (inside object segment word w number ready few there))
 
-  leaf_far : (column leaf w : ℕ) → Contains (all_columns words) column → Contains (leaf_list words column) leaf → leaf ≤ w → w < leaf + 128 → IsFar w
+  leaf_far : (column leaf w : ℕ) → Contains (all_columns words) column → Contains (leaf_list words column) leaf → leaf ≤ w → w < leaf + 104 → IsFar w
   leaf_far column leaf w is listed low high =
       let behind = listed_behind words fits column leaf is listed in
       in_block (omega (arith, behind, low)) (λ object segment word number ready some few at. leaf_word column leaf object segment w is listed low high (inside object segment word w number ready few at))

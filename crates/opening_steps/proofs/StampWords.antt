@@ -16,13 +16,11 @@ use Rattle.image_layout.proofs.TableParts.{column_of}
 use Rattle.image_layout.proofs.TableSlots.{few_tables}
 use Rattle.shown_state.specs.Fits.{Fits}
 use Rattle.shown_state.specs.Reads.{in_ends, in_object, in_stamps, in_table, IsRead}
-use Rattle.shown_state.specs.StepLaws.{HaveNoNew}
-use Rattle.shown_state.proofs.LeavesApart.{chunk_or_listed}
+use Rattle.shown_state.proofs.LeavesApart.{chunk_or_listed, table_or_listed}
 use Rattle.shown_state.proofs.SameLeaves.{slot_under}
 use Rattle.shown_state.proofs.SameTables.{IsHeader, codes_is, created_is, dictionary_is, ended_is}
 use Rattle.shown_state.proofs.ValuesApart.{at_behind, at_once, chunk_behind, chunk_home, chunk_or_segment, code_published, column_spot, extension_or_chunk, extension_or_part, first_of_extension, first_word, header_spot, in_chunk, in_head as in_block_head, in_last, IsAt, IsInChunk, IsInExtension, IsInSegment, IsInText, IsPointerIn, one_home, pointer_in, table_or_chunk, table_or_segment, table_or_text, text_home, word_spot}
-use Rattle.opening_steps.proofs.Idle.{ChangesOnly, MayChange}
-use Rattle.opening_steps.proofs.LeafHomes.{table_or_leaf}
+use Rattle.opening_steps.proofs.Beside.{ChangesOnly, MayChange}
 use Rattle.opening_steps.proofs.ObjectWords.{objects_may_change, of_own}
 use Rattle.opening_steps.proofs.Structure.{IsPlace, of_codes, of_column, of_dictionary, of_extension, of_head, of_header, of_leaf, of_pair, of_ready, of_segment, of_slot, of_table, of_text}
 use Rattle.opening_steps.proofs.Versions.{same_version}
@@ -36,7 +34,7 @@ pub data IsUndoWord (words : List ℕ) (w : ℕ) : Type 0 where
   a_bound : (table : ℕ) → table < table_count words → w ≡ high_at (table_block words table) → IsUndoWord words w
   a_state : (object : ℕ) → object < 16 → w ≡ state_at object → IsUndoWord words w
 
-module _ (words : List ℕ) (fits : Fits words) (clear : HaveNoNew 512 words) where
+module _ (words : List ℕ) (fits : Fits words) where
   -- ── headers of stamps ──
 
   -- the first or the second array of a table, by where its header stands in the table's block
@@ -165,7 +163,7 @@ module _ (words : List ℕ) (fits : Fits words) (clear : HaveNoNew 512 words) wh
   leaf_other : (column leaf w : ℕ) → Contains (all_columns words) column → Contains (leaf_list words column) leaf → leaf ≤ w → w < leaf + 104 → IsOther w
   leaf_other column leaf w is listed low high = record {
     no_stamp = λ table base header chunk stamps within. chunk_or_listed words fits column leaf header chunk w is listed within low high;
-    no_bound = λ table bound. table_or_leaf words fits clear table 1 column leaf w bound is listed low (omega (arith, high));
+    no_bound = λ table bound. table_or_listed words fits column leaf table 0 1 w is listed bound low high;
   }
 
   pointer_other : (table extension w : ℕ) → table < table_count words → extension ≤ extension_count words (table_block words table) → w ≡ extension_pointer_at words (table_block words table) extension → IsOther w
@@ -261,7 +259,7 @@ module _ (words : List ℕ) (fits : Fits words) (clear : HaveNoNew 512 words) wh
 
   state_place : (w : ℕ) → IsPlace words w → (object : ℕ) → object < 16 → w ≢ state_at object
   state_place w place object lt at =
-      let may = objects_may_change words fits clear in
+      let may = objects_may_change words fits in
       may.no_place w place (of_own object 0 lt (omega arith) (λ e. omega (arith, e)) (λ e. omega (arith, e)) at)
 
   is_read : (w : ℕ) → IsUndoWord words w → IsRead words w

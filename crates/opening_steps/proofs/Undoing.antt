@@ -154,7 +154,7 @@ module _ (words : List ℕ) (object : ℕ) (image : IsImage words) (number : obj
 
   inside : (place value : ℕ) → IsUndoStore place value → place < length words
   inside place value is =
-      let may = undo_may_change words fits clear in
+      let may = undo_may_change words fits in
       let spot = (reads_keep_off words image fits place (may.read place (stored_word place value is))).0 in spot.in_image
 
   abbrev kill_test : ℕ → Bool
@@ -207,41 +207,41 @@ module _ (words : List ℕ) (object : ℕ) (image : IsImage words) (number : obj
   killed_there : (table row value : ℕ) → table < table_count words → row < capacity words (created_header (table_block words table)) → IsUndoStore (birth_at words table row) value
       → (value ≡ no_commit) × ((get_or words (birth_at words table row) 0 ≡ 0) ⊎ (last_commit words < get_or words (birth_at words table row) 0)) × HasEntry words object 1 table row
   killed_there table row value lt published (kills other before less known at is was entry) =
-      let found = stamps_once words fits clear table 8 (created_header (table_block words table)) row other 8 (created_header (table_block words other)) before
-      (in_creators words fits clear table lt) (in_creators words fits clear other less) published known at in
+      let found = stamps_once words fits table 8 (created_header (table_block words table)) row other 8 (created_header (table_block words other)) before
+      (in_creators words fits table lt) (in_creators words fits other less) published known at in
       (is, was, subst (λ (r : ℕ). HasEntry words object 1 table r) (sym found.row_is) (subst (λ (t : ℕ). HasEntry words object 1 t before) (sym found.table_is) entry))
   killed_there table row value lt published (frees other before less known at is was) =
-      let found = stamps_once words fits clear table 8 (created_header (table_block words table)) row other 24 (ended_header (table_block words other)) before
-      (in_creators words fits clear table lt) (in_enders words fits clear other less) published known at in
+      let found = stamps_once words fits table 8 (created_header (table_block words table)) row other 24 (ended_header (table_block words other)) before
+      (in_creators words fits table lt) (in_enders words fits other less) published known at in
       let bases = found.base_is in absurd (omega (arith, bases))
   killed_there table row value lt published (raises other less at is) =
-      absurd (stamp_or_bound words fits clear table 8 (created_header (table_block words table)) row other (in_creators words fits clear table lt) published less at)
+      absurd (stamp_or_bound words fits table 8 (created_header (table_block words table)) row other (in_creators words fits table lt) published less at)
 
   freed_there : (table row value : ℕ) → table < table_count words → row < capacity words (ended_header (table_block words table)) → IsUndoStore (end_at words table row) value
       → (value ≡ 0) × (last_commit words < get_or words (end_at words table row) 0)
   freed_there table row value lt published (frees other before less known at is was) = (is, was)
   freed_there table row value lt published (kills other before less known at is was entry) =
-      let found = stamps_once words fits clear table 24 (ended_header (table_block words table)) row other 8 (created_header (table_block words other)) before
-      (in_enders words fits clear table lt) (in_creators words fits clear other less) published known at in
+      let found = stamps_once words fits table 24 (ended_header (table_block words table)) row other 8 (created_header (table_block words other)) before
+      (in_enders words fits table lt) (in_creators words fits other less) published known at in
       let bases = found.base_is in absurd (omega (arith, bases))
   freed_there table row value lt published (raises other less at is) =
-      absurd (stamp_or_bound words fits clear table 24 (ended_header (table_block words table)) row other (in_enders words fits clear table lt) published less at)
+      absurd (stamp_or_bound words fits table 24 (ended_header (table_block words table)) row other (in_enders words fits table lt) published less at)
 
   raised_there : (table value : ℕ) → table < table_count words → IsUndoStore (high_at (table_block words table)) value
       → value ≡ max (get_or words (high_at (table_block words table)) 0) (row_bound (created_rows words object table))
   raised_there table value lt (raises other less at is) =
-      let one = bounds_once words fits clear table other lt less at in is ∙ ap (λ (t : ℕ). max (get_or words (high_at (table_block words table)) 0) (row_bound (created_rows words object t))) (sym one)
+      let one = bounds_once words fits table other lt less at in is ∙ ap (λ (t : ℕ). max (get_or words (high_at (table_block words table)) 0) (row_bound (created_rows words object t))) (sym one)
   raised_there table value lt (kills other before less known at is was entry) =
-      absurd (stamp_or_bound words fits clear other 8 (created_header (table_block words other)) before table (in_creators words fits clear other less) known lt (sym at))
+      absurd (stamp_or_bound words fits other 8 (created_header (table_block words other)) before table (in_creators words fits other less) known lt (sym at))
   raised_there table value lt (frees other before less known at is was) =
-      absurd (stamp_or_bound words fits clear other 24 (ended_header (table_block words other)) before table (in_enders words fits clear other less) known lt (sym at))
+      absurd (stamp_or_bound words fits other 24 (ended_header (table_block words other)) before table (in_enders words fits other less) known lt (sym at))
 
   stored_behind : (place value : ℕ) → IsUndoStore place value → 2048 ≤ place
   stored_behind place value (kills other before less known at is was entry) =
-      let behind = stamp_behind words fits clear other 8 (created_header (table_block words other)) before (in_creators words fits clear other less) known in omega (arith, behind, at)
+      let behind = stamp_behind words fits other 8 (created_header (table_block words other)) before (in_creators words fits other less) known in omega (arith, behind, at)
   stored_behind place value (frees other before less known at is was) =
-      let behind = stamp_behind words fits clear other 24 (ended_header (table_block words other)) before (in_enders words fits clear other less) known in omega (arith, behind, at)
-  stored_behind place value (raises other less at is) = let behind = bound_behind words fits clear other less in omega (arith, behind, at)
+      let behind = stamp_behind words fits other 24 (ended_header (table_block words other)) before (in_enders words fits other less) known in omega (arith, behind, at)
+  stored_behind place value (raises other less at is) = let behind = bound_behind words fits other less in omega (arith, behind, at)
 
   -- ── a cut of the part ──
 
@@ -286,7 +286,7 @@ module _ (words : List ℕ) (object : ℕ) (image : IsImage words) (number : obj
 
     cut_taken : IsTaken words cut object
     cut_taken = record {
-      only = undo_only words fits clear cut (λ w. ⊎_elim (λ e. inl e) (λ stored. inr (stored_word w (get_or cut w 0) stored)) (is.each w)) is.size;
+      only = undo_only words fits cut (λ w. ⊎_elim (λ e. inl e) (λ stored. inr (stored_word w (get_or cut w 0) stored)) (is.each w)) is.size;
       creators = born;
       enders = ended;
       rises = λ table lt. ⊎_elim (λ e. omega (arith, e)) (λ e. omega (arith, e)) (bound_is table lt);
@@ -311,7 +311,7 @@ module _ (words : List ℕ) (object : ℕ) (image : IsImage words) (number : obj
   kill_is : (table row : ℕ) → table < table_count words → row < capacity words (created_header (table_block words table)) → undo_entry words (entry_word 1 table row) ≡ kill_part (birth_at words table row)
   kill_is table row lt published =
       let few = few_tables words fits.entry.table_count in
-      let rows = few_rows words fits clear (created_header (table_block words table)) (created_is words table lt) in
+      let rows = few_rows words fits (created_header (table_block words table)) (created_is words table lt) in
       let word = entry_word 1 table row in
       let kind : entry_kind word ≡ 1 = omega (arith, lt, few, published, rows) in
       let of : entry_table word ≡ table = omega (arith, lt, few, published, rows) in
@@ -322,7 +322,7 @@ module _ (words : List ℕ) (object : ℕ) (image : IsImage words) (number : obj
   free_is : (table row : ℕ) → table < table_count words → row < capacity words (ended_header (table_block words table)) → undo_entry words (entry_word 2 table row) ≡ free_part (end_at words table row)
   free_is table row lt published =
       let few = few_tables words fits.entry.table_count in
-      let rows = few_rows words fits clear (ended_header (table_block words table)) (ended_is words table lt) in
+      let rows = few_rows words fits (ended_header (table_block words table)) (ended_is words table lt) in
       let word = entry_word 2 table row in
       let kind : entry_kind word ≡ 2 = omega (arith, lt, few, published, rows) in
       let of : entry_table word ≡ table = omega (arith, lt, few, published, rows) in
@@ -335,7 +335,7 @@ module _ (words : List ℕ) (object : ℕ) (image : IsImage words) (number : obj
 
   spot_inside : (w : ℕ) → IsUndoWord words w → w < length words
   spot_inside w is =
-      let may = undo_may_change words fits clear in
+      let may = undo_may_change words fits in
       let spot = (reads_keep_off words image fits w (may.read w is)).0 in spot.in_image
 
   all_born : (table row : ℕ) → table < table_count words → row < capacity words (created_header (table_block words table)) → HasEntry words object 1 table row
@@ -400,14 +400,14 @@ module _ (words : List ℕ) (object : ℕ) (image : IsImage words) (number : obj
 
   birth_other : (table row : ℕ) → table < table_count words → row < capacity words (created_header (table_block words table)) → get_or closed (birth_at words table row) 0 ≡ get_or undone (birth_at words table row) 0
   birth_other table row lt published = closed_other (birth_at words table row) (λ e.
-      let behind = stamp_behind words fits clear table 8 (created_header (table_block words table)) row (in_creators words fits clear table lt) published in omega (arith, behind, e, number))
+      let behind = stamp_behind words fits table 8 (created_header (table_block words table)) row (in_creators words fits table lt) published in omega (arith, behind, e, number))
 
   end_other : (table row : ℕ) → table < table_count words → row < capacity words (ended_header (table_block words table)) → get_or closed (end_at words table row) 0 ≡ get_or undone (end_at words table row) 0
   end_other table row lt published = closed_other (end_at words table row) (λ e.
-      let behind = stamp_behind words fits clear table 24 (ended_header (table_block words table)) row (in_enders words fits clear table lt) published in omega (arith, behind, e, number))
+      let behind = stamp_behind words fits table 24 (ended_header (table_block words table)) row (in_enders words fits table lt) published in omega (arith, behind, e, number))
 
   bound_other : (table : ℕ) → table < table_count words → get_or closed (high_at (table_block words table)) 0 ≡ get_or undone (high_at (table_block words table)) 0
-  bound_other table lt = closed_other (high_at (table_block words table)) (λ e. let behind = bound_behind words fits clear table lt in omega (arith, behind, e, number))
+  bound_other table lt = closed_other (high_at (table_block words table)) (λ e. let behind = bound_behind words fits table lt in omega (arith, behind, e, number))
 
   all_taken : IsAllTaken words closed object
   all_taken = record {
@@ -420,7 +420,7 @@ module _ (words : List ℕ) (object : ℕ) (image : IsImage words) (number : obj
 
   closed_taken : IsTaken words closed object
   closed_taken = record {
-    only = undo_only words fits clear closed (λ w. ⊎_elim (λ here. inr (a_state object number here))
+    only = undo_only words fits closed (λ w. ⊎_elim (λ here. inr (a_state object number here))
         (λ apart. ⊎_elim (λ e. inl (closed_other w apart ∙ e)) (λ stored. inr (stored_word w (get_or undone w 0) stored)) (undone_is.each w)) (cases_eq w at_state))
         (length-set undone at_state 0 ∙ undone_is.size);
     creators = λ table row lt published.
@@ -455,7 +455,7 @@ module _ (words : List ℕ) (object : ℕ) (image : IsImage words) (number : obj
 
   pub goes_on : AreUndone (object + 1) closed
   goes_on = (
-    none_new words closed (IsUndoWord words) image fits clear (undo_may_change words fits clear) closed_taken.only,
+    none_new words closed (IsUndoWord words) image fits clear (undo_may_change words fits) closed_taken.only,
     last_kept words closed object image number fits clear open_is closed_taken ∙ has.1 ∙ sym (last_same words closed object image number fits clear open_is closed_taken),
     none_undecided,
   )

@@ -27,7 +27,7 @@ use Rattle.shown_state.proofs.SameLeaves.{values_same}
 use Rattle.shown_state.proofs.SameTables.{created_is, ended_is}
 use Rattle.opening_steps.proofs.Closer.{commit_low, fold_max-each, fold_max-most, last_commit_low, state_low}
 use Rattle.opening_steps.proofs.Fitting.{still_fits, TransactionsFit}
-use Rattle.opening_steps.proofs.Idle.{ChangesOnly, MayChange, places}
+use Rattle.opening_steps.proofs.Beside.{ChangesOnly, MayChange, places}
 use Rattle.opening_steps.proofs.NoneNew.{entry_apart, entry_word as entry_is_own, none_new}
 use Rattle.opening_steps.proofs.ObjectWords.{IsObjectWord, objects_keep_stamps, of_own, the_last}
 use Rattle.opening_steps.specs.QuietImages.{StaysQuiet}
@@ -98,10 +98,10 @@ created_below words object table row low few has =
 module _ (old new : List ℕ) (object : ℕ) (image : IsImage old) (number : object < 16) (fits : Fits old) (clear : HaveNoNew 512 old)
     (open_is : is_undecided old object ≡ true) (taken : IsTaken old new object) where
   may : MayChange old (IsUndoWord old)
-  may = undo_may_change old fits clear
+  may = undo_may_change old fits
 
   same : SamePlaces old new
-  same = places old new (IsUndoWord old) image fits clear may taken.only
+  same = places old new (IsUndoWord old) image fits may taken.only
 
   -- ── words of objects ──
 
@@ -109,11 +109,11 @@ module _ (old new : List ℕ) (object : ℕ) (image : IsImage old) (number : obj
   object_kept w own states = let only = taken.only in ⊎_elim (λ e. e) (λ hit. absurd (none hit)) (only.each w)
     where
       none : IsUndoWord old w → ⊥
-      none (a_creator table row lt less at) = let stamps = objects_keep_stamps old fits clear in
+      none (a_creator table row lt less at) = let stamps = objects_keep_stamps old fits in
           stamps.chunk (created_header (table_block old table)) row (created_is old table lt) less (subst (IsObjectWord old) at own)
-      none (an_ender table row lt less at) = let stamps = objects_keep_stamps old fits clear in
+      none (an_ender table row lt less at) = let stamps = objects_keep_stamps old fits in
           stamps.chunk (ended_header (table_block old table)) row (ended_is old table lt) less (subst (IsObjectWord old) at own)
-      none (a_bound table lt at) = let stamps = objects_keep_stamps old fits clear in stamps.bound table lt (subst (IsObjectWord old) at own)
+      none (a_bound table lt at) = let stamps = objects_keep_stamps old fits in stamps.bound table lt (subst (IsObjectWord old) at own)
       none (a_state one lt at) = states one lt at
 
   pub last_kept : get_or new last_at 0 ≡ get_or old last_at 0
@@ -249,7 +249,7 @@ module _ (old new : List ℕ) (object : ℕ) (image : IsImage old) (number : obj
   own_used : (table row : ℕ) → table < table_count old → row < capacity old (created_header (table_block old table)) → HasEntry old object 1 table row → row < used_up new table
   own_used table row lt published has =
       let few = few_tables old fits.entry.table_count in
-      let rows = few_rows old fits clear (created_header (table_block old table)) (created_is old table lt) in
+      let rows = few_rows old fits (created_header (table_block old table)) (created_is old table lt) in
       let under = created_below old object table row (omega (arith, lt, few)) (omega (arith, published, rows)) has in
       let bound = bound_among old (is_undecided old) table object number open_is in
       let used = used_same table lt in
@@ -397,7 +397,7 @@ module _ (old new : List ℕ) (object : ℕ) (image : IsImage old) (number : obj
   pub taken_stays : StaysQuiet old new
   taken_stays = record {
     still = record {
-      fits = still_fits old new (IsUndoWord old) image fits clear may taken.only transactions;
+      fits = still_fits old new (IsUndoWord old) image fits may taken.only transactions;
       shows = state_same old new same fits.entry.arrays fits.codes stamps fits.rows;
     };
     quiet = none_new old new (IsUndoWord old) image fits clear may taken.only;

@@ -26,7 +26,7 @@ use Rattle.shown_state.proofs.ReadsStand.{reads_keep_off}
 use Rattle.shown_state.proofs.ValuesApart.{at_behind}
 use Rattle.opening_steps.specs.QuietImages.{StaysQuiet}
 use Rattle.opening_steps.proofs.Closer.{closer_stays, IsCloser, last_same, undecided_same}
-use Rattle.opening_steps.proofs.Idle.{ChangesOnly, KeepsStamps, MayChange, places}
+use Rattle.opening_steps.proofs.Beside.{ChangesOnly, KeepsStamps, MayChange, places}
 use Rattle.opening_steps.proofs.NoneNew.{entry_word, none_new}
 use Rattle.opening_steps.proofs.ObjectWords.{IsObjectWord, of_own, the_last}
 use Rattle.opening_steps.proofs.Objects.{entry_places_same}
@@ -40,17 +40,17 @@ module _ (words : List ℕ) (image : IsImage words) (fits : Fits words) (has : A
   block table = table_block words table
 
   may : MayChange words (IsVersionWord words)
-  may = versions_may_change words fits has.0.0.0
+  may = versions_may_change words fits
 
   stamps : KeepsStamps words (IsVersionWord words)
-  stamps = versions_keep_stamps words fits has.0.0.0
+  stamps = versions_keep_stamps words fits
 
   -- ── words in which only those of the version differ ──
 
   module _ (now : List ℕ) (only : ChangesOnly (IsVersionWord words) words now) where
     -- the words of transactions are as they were
     kept : (w : ℕ) → IsObjectWord words w → get_or now w 0 ≡ get_or words w 0
-    kept w object = ⊎_elim (λ e. e) (λ hit. absurd (object_or_version words fits has.0.0.0 w object hit)) (only.each w)
+    kept w object = ⊎_elim (λ e. e) (λ hit. absurd (object_or_version words fits w object hit)) (only.each w)
 
     state_kept : (object : ℕ) → object < 16 → get_or now (state_at object) 0 ≡ get_or words (state_at object) 0
     state_kept object lt = kept (state_at object) (of_own object 0 lt (omega arith) (λ e. omega (arith, e)) (λ e. omega (arith, e)) (omega arith))
@@ -79,7 +79,7 @@ module _ (words : List ℕ) (image : IsImage words) (fits : Fits words) (has : A
     still = closer_stays words now (IsVersionWord words) image fits has.0.0.0 may stamps closer
 
     same : SamePlaces words now
-    same = places words now (IsVersionWord words) image fits has.0.0.0 may only
+    same = places words now (IsVersionWord words) image fits may only
 
     still_clear : AreClear 16 now
     still_clear = (
@@ -144,7 +144,7 @@ module _ (words : List ℕ) (image : IsImage words) (fits : Fits words) (has : A
 
     apart : (table : ℕ) → table < table_count words → version_at ≢ at table
     apart table lt here =
-        let behind = at_behind words fits table 0 6 (at table) (count_spot words fits has.0.0.0 table (at table) lt refl) in
+        let behind = at_behind words fits table 0 6 (at table) (count_spot words fits table (at table) lt refl) in
         omega (arith, here, behind)
 
     next_stage : (now : List ℕ) (table : ℕ) → table < table_count words → IsStage now → IsStage (set now (at table) (count table))

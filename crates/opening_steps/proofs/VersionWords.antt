@@ -10,13 +10,11 @@ use Rattle.image_layout.proofs.TableParts.{column_of}
 use Rattle.image_layout.proofs.TableSlots.{few_tables}
 use Rattle.shown_state.specs.Fits.{Fits}
 use Rattle.shown_state.specs.Reads.{in_head, in_table, IsRead}
-use Rattle.shown_state.specs.StepLaws.{HaveNoNew}
-use Rattle.shown_state.proofs.LeavesApart.{listed_behind}
+use Rattle.shown_state.proofs.LeavesApart.{listed_behind, table_or_listed}
 use Rattle.shown_state.proofs.SameLeaves.{slot_under}
 use Rattle.shown_state.proofs.SameTables.{IsHeader, codes_is, dictionary_is}
 use Rattle.shown_state.proofs.ValuesApart.{at_behind, at_once, chunk_behind, column_spot, extension_or_part, extension_pointer_behind, first_word, header_spot, in_chunk, in_head as in_block_head, in_last, IsAt, IsInChunk, IsInSegment, IsInText, IsPointerIn, pointer_in, segment_behind, table_or_chunk, table_or_segment, table_or_text, text_behind, word_spot}
-use Rattle.opening_steps.proofs.Idle.{KeepsStamps, MayChange}
-use Rattle.opening_steps.proofs.LeafHomes.{table_or_leaf}
+use Rattle.opening_steps.proofs.Beside.{KeepsStamps, MayChange}
 use Rattle.opening_steps.proofs.ObjectWords.{block_apart, IsObjectWord, version_apart}
 use Rattle.opening_steps.proofs.Structure.{IsPlace, of_codes, of_column, of_dictionary, of_extension, of_head, of_header, of_leaf, of_pair, of_ready, of_segment, of_slot, of_table, of_text}
 
@@ -24,7 +22,7 @@ pub data IsVersionWord (words : List ℕ) (w : ℕ) : Type 0 where
   the_version : w ≡ version_at → IsVersionWord words w
   of_count : (table : ℕ) → table < table_count words → w ≡ inner_columns_at (table_block words table) → IsVersionWord words w
 
-module _ (words : List ℕ) (fits : Fits words) (clear : HaveNoNew 512 words) where
+module _ (words : List ℕ) (fits : Fits words) where
   -- none of these words
   record IsOther (w : ℕ) : Type 0 where
     pub no_version : w ≢ version_at
@@ -53,10 +51,10 @@ module _ (words : List ℕ) (fits : Fits words) (clear : HaveNoNew 512 words) wh
       let within = subst (IsInChunk words fits header (chunk_of index)) (sym at) (in_chunk words fits header index is lt) in
       behind_other w (chunk_behind words fits header (chunk_of index) w within) (λ table count. table_or_chunk words fits table 0 6 header (chunk_of index) w count within)
 
-  leaf_other : (column leaf w : ℕ) → Contains (all_columns words) column → Contains (leaf_list words column) leaf → leaf ≤ w → w < leaf + 128 → IsOther w
+  leaf_other : (column leaf w : ℕ) → Contains (all_columns words) column → Contains (leaf_list words column) leaf → leaf ≤ w → w < leaf + 104 → IsOther w
   leaf_other column leaf w is listed low high =
       let behind = listed_behind words fits column leaf is listed in
-      behind_other w (omega (arith, behind, low)) (λ table count. table_or_leaf words fits clear table 6 column leaf w count is listed low high)
+      behind_other w (omega (arith, behind, low)) (λ table count. table_or_listed words fits column leaf table 0 6 w is listed count low high)
 
   pointer_other : (table extension w : ℕ) → table < table_count words → extension ≤ extension_count words (table_block words table) → w ≡ extension_pointer_at words (table_block words table) extension → IsOther w
   pointer_other table extension w published le at = by (pointer_in words fits table extension w published le at)
@@ -123,5 +121,5 @@ module _ (words : List ℕ) (fits : Fits words) (clear : HaveNoNew 512 words) wh
 
   -- nor is a word of transactions one of them
   pub object_or_version : (w : ℕ) → IsObjectWord words w → IsVersionWord words w → ⊥
-  object_or_version w object (the_version at) = version_apart words fits clear (subst (IsObjectWord words) at object)
-  object_or_version w object (of_count table lt at) = block_apart words fits clear table 6 lt (omega arith) (subst (IsObjectWord words) at object)
+  object_or_version w object (the_version at) = version_apart words fits (subst (IsObjectWord words) at object)
+  object_or_version w object (of_count table lt at) = block_apart words fits table 6 lt (omega arith) (subst (IsObjectWord words) at object)
