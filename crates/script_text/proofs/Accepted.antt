@@ -1,13 +1,11 @@
 -- Lines that are accepted, from the first on.
 use Rattle.std.proofs.Common.{◌≡◌, ℕ, ◌+◌, false, true, List, [], ◌∷◌, ◌++◌, length, refl, ap, sym, ◌∙◌, inl, inr, arith, append_assoc}
-use Rattle.std.specs.Prelude.{IsUtf8, Result, Ok, Err}
+use Rattle.std.specs.Prelude.{Result, Ok, Err}
 use Rattle.std.specs.Str.Lines.{lines}
-use Rattle.std.specs.Str.{is_utf8}
 use Rattle.std.proofs.lemmas.Bool.{cases_Bool}
-use Rattle.std.proofs.lemmas.Str.{IsUtf8-from_is_utf8}
 use Rattle.script_text.specs.declared.script.Line.{Line}
 use Rattle.script_text.specs.Words.{is_passed_over}
-use Rattle.script_text.specs.Reading.{MayLackMemory, go_on, read_after, script_after}
+use Rattle.script_text.specs.Reading.{BeginsStatement, MayLackMemory, go_on, read_after, script_after}
 
 -- of these texts some are read, to these lines, and these are left
 pub record IsAcceptedFront (texts : List (List ℕ)) (before : List Line) (rest : List (List ℕ)) : Type 0 where
@@ -61,21 +59,10 @@ accepted-more texts before rest line behind said after is begins looked read mor
   accepted = goes-on is.front (line ∷ []) [] before 1 is.accepted ∙ rw (looked, read, more) refl;
 }
 
--- a line that is read is a text
-pub read-text : (before : List Line) (line : List ℕ) (said : Line) → read_after before line ≡ Ok said → IsUtf8 line
-read-text before line said read =
-    elim (cases_Bool (is_utf8 line)) [
-      | inl valid ↦ IsUtf8-from_is_utf8 line valid
-      | inr not ↦ absurd (refused (rw not at read))
-    ]
-  where
-    refused : ◌≡◌ {A = Result Line ℕ} (Err 1) (Ok said) → ⊥
-    refused is = cc
-
 -- where memory may run out
 pub may-lack : (bytes : List ℕ) (before : List Line) (rest : List (List ℕ)) (line : List ℕ) (behind : List (List ℕ))
-    → IsAcceptedFront (lines bytes) before rest → rest ≡ line ∷ behind → is_passed_over line ≡ false → IsUtf8 line → MayLackMemory bytes
-may-lack bytes before rest line behind is begins looked text = record {
+    → IsAcceptedFront (lines bytes) before rest → rest ≡ line ∷ behind → is_passed_over line ≡ false → BeginsStatement line → MayLackMemory bytes
+may-lack bytes before rest line behind is begins looked opening = record {
   front = is.front;
   line = line;
   rest = behind;
@@ -83,5 +70,5 @@ may-lack bytes before rest line behind is begins looked text = record {
   lines_are = is.lines_are ∙ ap (λ (rest : List (List ℕ)). is.front ++ rest) begins;
   accepted = is.accepted;
   looked_at = looked;
-  text = text;
+  begins = opening;
 }
