@@ -41,7 +41,7 @@ measure() {
         if [ "$work" = copy ]; then copied=$took; fi
         awk -v kind="$1" -v lines="$2" -v work="$work" -v count=$count -v took="$took" -v copied="$copied" 'BEGIN {
             printf "| %s | %d | %s | %d | %d | %.2f | %.0f %% |\n", kind, lines, work, count, count / lines, took / 1000,
-                took > 0 ? 100 * copied / took : 100
+                (took > 0 ? 100 * copied / took : 100)
         }'
     done
 }
