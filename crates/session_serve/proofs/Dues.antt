@@ -1,5 +1,5 @@
 -- Which of the calls that are decided are due.
-use Rattle.std.proofs.Common.{◌≡◌, ◌≢◌, inl, inr, ℕ, ◌+◌, ◌<◌, ◌≤◌, ◌∙◌, List, [], ◌∷◌, ◌++◌, length, take, refl, ap, sym, subst, append-nil, append_assoc, length-append, arith}
+use Rattle.std.proofs.Common.{◌≡◌, ◌≢◌, inl, inr, ℕ, ◌+◌, ◌≤◌, ◌∙◌, List, [], ◌∷◌, ◌++◌, length, take, refl, ap, sym, subst, append-nil, append_assoc, length-append, arith}
 use Rattle.std.proofs.lemmas.List.{same_from_push}
 use Rattle.mv_model.specs.declared.call.Call.TheVariants as call
 use Rattle.mv_model.specs.declared.reply.Reply.TheVariants as reply

@@ -22,7 +22,7 @@ use Rattle.session_serve.specs.Moments.{AreWantingWhere, IsFirstAt, IsFrontOf, I
 use Rattle.session_serve.specs.declared.playing.Ending.{Ending}
 use Rattle.session_serve.specs.declared.playing.Ending.TheVariants as ending
 use Rattle.session_serve.specs.Parts.{LeavesBy, kept_by}
-use Rattle.session_serve.specs.Playing.{said_in, EndsLines, IsBefore, IsCounted, IsFresh, IsInCall, StopsAtOnce, StopsInLine, moment_of}
+use Rattle.session_serve.specs.Playing.{said_in, EndsLines, IsBefore, IsCounted, IsInCall, StopsAtOnce, StopsInLine, moment_of}
 use Rattle.session_serve.specs.Runs.{Finishes, IsCutOff}
 use Rattle.session_serve.proofs.Lines.{wanting-more, same-more, statements_of-append}
 

@@ -1,5 +1,5 @@
 -- What an event does to a call in flight.
-use Rattle.std.proofs.Common.{◌≡◌, ◌≢◌, ◌⊎◌, inl, inr, ℕ, ◌+◌, ◌<◌, ◌≤◌, ◌∙◌, Bool, true, false, List, [], ◌∷◌, ◌++◌, length, Option, None, Some, refl, ap, sym, subst, append-nil, append_assoc, length-append, arith}
+use Rattle.std.proofs.Common.{◌≡◌, ◌≢◌, inl, inr, ℕ, ◌+◌, ◌<◌, ◌≤◌, ◌∙◌, Bool, true, false, List, [], ◌∷◌, ◌++◌, Option, None, Some, refl, ap, sym, subst, arith}
 use Rattle.std.proofs.lemmas.List.{same_from_push}
 use Rattle.mv_model.specs.declared.call.Call.{Call}
 use Rattle.mv_model.specs.declared.call.Call.TheVariants as call
@@ -8,13 +8,13 @@ use Rattle.mv_model.specs.declared.reply.Entry.{Entry}
 use Rattle.mv_model.specs.State.{State}
 use Rattle.mv_model.specs.History.{state_after}
 use Rattle.pm_model.specs.Device.{Device}
-use Rattle.engine_core.specs.CoreState.{CoreState, InFlight, Nothing, Unplaced, Last, GetsEntry, IsEvent, Moves, Stays, actions_of, answered, unanswered}
+use Rattle.engine_core.specs.CoreState.{CoreState, InFlight, Nothing, Unplaced, Last, GetsEntry, IsEvent, Moves, actions_of, answered, unanswered}
 use Rattle.engine_core.specs.declared.flight.Step.{Step}
 use Rattle.engine_core.specs.declared.flight.Step.TheVariants.{Played, Decided, Blocked, Replied}
 use Rattle.engine_core.specs.LogicalState.{logical_state}
 use Rattle.mv_model.specs.declared.reply.Reply.TheVariants as reply
 use Rattle.session_serve.specs.Moments.{IsWantingWhere}
-use Rattle.session_serve.specs.Playing.{HasEntry, IsBefore, IsInCall, WasGiven, WasNotGiven}
+use Rattle.session_serve.specs.Playing.{IsBefore, IsInCall}
 
 -- ── the call in flight ──
 

@@ -1,5 +1,5 @@
 -- What a call has done, from what its parts have done.
-use Rattle.std.proofs.Common.{◌≡◌, ◌⊎◌, inl, inr, ℕ, List, Option, None, Some, Result, Ok, Err, refl, sym, subst, ◌∙◌}
+use Rattle.std.proofs.Common.{◌≡◌, inl, inr, ℕ, List, Option, None, Some, Result, Ok, Err, refl, sym, subst, ◌∙◌}
 use Rattle.pm_model.specs.declared.action.Keep.{Keep}
 use Rattle.script_text.specs.declared.script.Line.{Line}
 use Rattle.session_serve.specs.declared.playing.Ending.{Ending}

@@ -76,6 +76,15 @@ pub record IsRun (words : List ℕ) (script : List Line) (played : ℕ) (m : Mom
   pub may_recover_to : (image : List ℕ) → IsCrashImage m.device image
       → MayRecoverTo (logical_state m.opened) m.history (undecided m.device m.due) (logical_state image)
 
+-- the calls that have their place are these, and then some more
+pub record HasBehind (m : Moment) (front more : List Entry) : Type 0 where
+  pub split : m.history ≡ front ++ more
+  pub some : more ≢ []
+
+-- the moment told otherwise: these alone have their place, and the others are due
+abbrev pub told_due : Moment → List Entry → List Entry → Moment
+told_due m front more = record m { history = front; due = more ++ m.due }
+
 -- Every statement was answered, and nothing is left to do: each word that the device has cached is durable.
 pub record IsFinished (script : List Line) (m : Moment) : Type 0 where
   pub said : (session : ℕ) → calls_of session m.history ≡ statements_of session script

@@ -56,6 +56,10 @@ IsInCall opened said before Nothing after = HasEntry opened said before after Wa
 IsInCall opened said before (Unplaced other) after = (other ≡ said) × (after ≡ before)
 IsInCall opened said before Last after = HasEntry opened said before after WasNotGiven
 
+-- so it is of this core, which was opened on these words
+abbrev pub HasInCall : {M : Type 0} → Call → List ℕ → List Entry → CoreState M → Type 0
+HasInCall said opened front core = IsInCall (logical_state opened) said front core.in_flight core.history
+
 -- the call ended so: it was replied before the cut came, or the cut came
 abbrev pub EndsCall : {M : Type 0} → Ending → Option ℕ → CoreState M → Type 0
 EndsCall ending.Finished cut core =

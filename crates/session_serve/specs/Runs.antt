@@ -1,5 +1,5 @@
 -- What a call of `run` has done, by its status, and which statuses it may end with.
-use Rattle.std.specs.Prelude.{ℕ, ◌≡◌, ◌≢◌, ◌⊎◌, ◌+◌, ◌≤◌, ◌++◌, nat_lt, List, length, Option, None, Some, IfSome, Result, Ok, Err, Bool, true, false}
+use Rattle.std.specs.Prelude.{ℕ, ◌≡◌, ◌≢◌, ◌⊎◌, ◌+◌, ◌≤◌, ◌++◌, nat_lt, List, length, map, String, string_bytes, Option, None, Some, IfSome, Result, Ok, Err, Bool, true, false}
 use Rattle.std.specs.Io.KnownBytes.{Appends, Consumes, IsAtEnd}
 use Rattle.io_edge.specs.Faults.{Rose, one_more}
 use Rattle.io_edge.specs.Streams.{SinkState, SourceState}
@@ -20,6 +20,7 @@ use Rattle.script_text.specs.declared.error.ScriptError.TheVariants as script_er
 use Rattle.script_text.specs.Printed.{history_text}
 use Rattle.script_text.specs.Reading.{MayLackMemory, script_of}
 use Rattle.session_serve.specs.Moments.{IsFinished, IsFirstAt, IsRun, IsUncut, Moment}
+use Rattle.command_line.specs.Words.{job_of}
 use Rattle.command_line.specs.declared.words.Job.{Job}
 use Rattle.command_line.specs.declared.words.Job.TheVariants as job
 use Rattle.session_serve.specs.declared.status.Status.{Status}
@@ -154,6 +155,10 @@ pub record IsCutOff (cut : Option ℕ) (keep : Keep) (words : List ℕ) (script 
 
 -- ── what a call has done ──
 
+-- the job that the words of a command line ask for, if they are a command
+abbrev pub asked_by : {Z : Type 0} → List (String Z) → Option Job
+asked_by words = job_of (map string_bytes words)
+
 -- a script was run over the image of these words, and what it left was written
 pub record WrittenRun (Leaves : Leaving) (Writes : Writing) (words : List ℕ) (script : List Line)
     (before after : Outputs) : Type 0 where
@@ -261,6 +266,18 @@ Ends given (Some (job.Format segments)) before after =
     EndsFormat given segments before.outputs.image after.outputs.image
 Ends given (Some (job.Script cut keep)) before after = EndsScript given cut keep before after
 
+-- The same, told of each stream before the call and after it: of the sources of the image and of the script, and of the
+-- sinks of the image and of the text.
+abbrev pub EndedScript : Status → Option ℕ → Keep → (image input : SourceState) → (image_out out : SinkState)
+    → (image_now input_now : SourceState) → (image_out_now out_now : SinkState) → Type 0
+EndedScript given cut keep image input image_out out image_now input_now image_out_now out_now =
+    EndsScript given cut keep (streams image input image_out out) (streams image_now input_now image_out_now out_now)
+
+abbrev pub Ended : Status → Option Job → (image input : SourceState) → (image_out out : SinkState)
+    → (image_now input_now : SourceState) → (image_out_now out_now : SinkState) → Type 0
+Ended given job image input image_out out image_now input_now image_out_now out_now =
+    Ends given job (streams image input image_out out) (streams image_now input_now image_out_now out_now)
+
 -- this holds where the job reads nothing and prints nothing
 abbrev pub UnlessScript : Option Job → Type 0 → Type 0
 UnlessScript None claim = claim
@@ -339,3 +356,12 @@ MayEnd (Some (job.Script cut keep)) image input fault given = MayEndScript image
 -- these are the words that the bytes spell, if they spell any
 abbrev pub AreWordsOf : List ℕ → List ℕ → Type 0
 AreWordsOf bytes words = first_fault bytes ≡ None → IsImage words × (bytes ≡ spelling words)
+
+-- The call may end with this status over these bytes, whatever words the image's bytes spell.
+abbrev pub MayEndOver : Status → Option Job → List ℕ → List ℕ → Type 0
+MayEndOver given job image input =
+    (spelled : List ℕ) → AreWordsOf image spelled → MayEnd job image input (opening_fault spelled) given
+
+-- where both sources tell their bytes, this holds of them
+abbrev pub OfBoth : SourceState → SourceState → (List ℕ → List ℕ → Type 0) → Type 0
+OfBoth image input Holds = IfSome image.left (λ image_bytes. IfSome input.left (λ input_bytes. Holds image_bytes input_bytes))

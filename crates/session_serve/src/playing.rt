@@ -7,7 +7,7 @@ ghost use Rattle.engine_core.specs.CoreState.{Nothing, Unplaced};
 ghost use Rattle.engine_core.specs.LogicalState.{logical_state};
 ghost use Rattle.engine_core.specs.Served.{is_served};
 ghost use Rattle.script_text.specs.Script.{IsBuiltLine};
-ghost use Rattle.session_serve.specs.Playing.{said_in, EndsCall, EndsLines, HasRun, IsBefore, IsCounted, IsFresh, IsInCall};
+ghost use Rattle.session_serve.specs.Playing.{said_in, EndsCall, EndsLines, HasRun, IsBefore, IsCounted, IsFresh, HasInCall, IsInCall};
 
 use engine_core::Core;
 use mv_model::{Call, NoMemory};
@@ -40,9 +40,8 @@ fn go_on<M: Memory>(core: &mut Core<M>)
     ensures events { core.new.events_left + 1 ≡ core.old.events_left }
     ensures most { core.new.played ≤ core.old.played + 1 }
     ensures in_flight { core.old.played < core.new.played → core.new.in_flight ≢ Nothing }
-    ensures in_call { (said : Said) (opened : List ℕ) (front : List Entry) → core.old.opened ≡ opened
-        → IsInCall (logical_state opened) said front core.old.in_flight core.old.history
-        → IsInCall (logical_state opened) said front core.new.in_flight core.new.history }
+    ensures in_call { (said : Said) (opened : List ℕ) (front : List Entry) → core.old.opened ≡ opened →
+        HasInCall said opened front core.old → HasInCall said opened front core.new }
 {
     let _event = core.step(1);
 }
@@ -55,7 +54,7 @@ fn step_to_reply<M: Memory>(core: &mut Core<M>, cut: Option<u64>) -> Ending
     ensures opened { core.new.opened ≡ core.old.opened }
     ensures started { core.new.started ≡ core.old.started }
     ensures in_call { (said : Said) → core.old.in_flight ≡ Unplaced said
-        → IsInCall (logical_state core.old.opened) said core.old.history core.new.in_flight core.new.history }
+        → HasInCall said core.old.opened core.old.history core.new }
     ensures counted { IsCounted core.new }
     ensures ends { EndsCall result cut core.new }
 {

@@ -2,10 +2,8 @@ ghost use Rattle.std.specs.Prelude.{◌≡◌, ◌≤◌, List, ℕ, Ok, None, A
 ghost use Rattle.pm_image.specs.Spelling.{IsImage};
 ghost use Rattle.pm_model.specs.Plain.{device_of};
 ghost use Rattle.pm_model.specs.Plans.{at_rest};
-ghost use Rattle.engine_core.specs.Opening.{opening_fault};
 ghost use Rattle.script_text.specs.Script.{IsBuiltLine};
-ghost use Rattle.command_line.specs.Words.{job_of};
-ghost use Rattle.session_serve.specs.Runs.{AreWordsOf, Ends, EndsFormat, EndsScript, FailsToWrite, IsWrittenOut, MayEnd, ReadsImage, ReadsScript, ReadsToEnd, TakesInput, UnlessScript, UnlessWritten, outputs, streams};
+ghost use Rattle.session_serve.specs.Runs.{Ended, EndedScript, EndsFormat, FailsToWrite, IsWrittenOut, MayEndOver, OfBoth, ReadsImage, ReadsScript, ReadsToEnd, TakesInput, UnlessScript, UnlessWritten, asked_by, outputs};
 ghost use Rattle.session_serve.specs.Parts.{IsNoImage, IsNoScript, IsUnread, IsWritten, RanWords, Takes};
 
 use crate::leaving::{Left, play};
@@ -122,9 +120,9 @@ fn read_and_play<I: Source, S: Source, J: Sink, O: Sink>(
     image_out: &mut J,
     out: &mut O,
 ) -> Status
-    ensures ends { EndsScript result cut keep
-        (streams (I.state image.old) (S.state input.old) (J.state image_out.old) (O.state out.old))
-        (streams (I.state image.new) (S.state input.new) (J.state image_out.new) (O.state out.new)) }
+    ensures ends { EndedScript result cut keep
+        (I.state image.old) (S.state input.old) (J.state image_out.old) (O.state out.old)
+        (I.state image.new) (S.state input.new) (J.state image_out.new) (O.state out.new) }
     ensures image_taken { TakesInput result (I.state image.old).left (I.state image.new).left }
     ensures taken { TakesInput result (S.state input.old).left (S.state input.new).left }
     ensures image_unwritten { UnlessWritten result (image_out.new ≡ image_out.old) }
@@ -180,14 +178,12 @@ pub fn run<I: Source, S: Source, J: Sink, O: Sink>(
 ) -> Status
     // What the call has done, by the status that it ends with: what was read, and to its end; what was written, and
     // flushed once, behind its last byte; and which stream has failed, exactly where a fault is answered.
-    ensures ends { Ends result (job_of (map string_bytes words.now))
-        (streams (I.state image.old) (S.state input.old) (J.state image_out.old) (O.state out.old))
-        (streams (I.state image.new) (S.state input.new) (J.state image_out.new) (O.state out.new)) }
+    ensures ends { Ended result (asked_by words.now)
+        (I.state image.old) (S.state input.old) (J.state image_out.old) (O.state out.old)
+        (I.state image.new) (S.state input.new) (J.state image_out.new) (O.state out.new) }
 
     // The status is that of the words, the image and the input, unless memory ran out or a stream failed.
-    ensures status { IfSome (I.state image.old).left (λ image_bytes. IfSome (S.state input.old).left (λ input_bytes.
-        (spelled : List ℕ) → AreWordsOf image_bytes spelled
-        → MayEnd (job_of (map string_bytes words.now)) image_bytes input_bytes (opening_fault spelled) result)) }
+    ensures status { OfBoth (I.state image.old) (S.state input.old) (MayEndOver result (asked_by words.now)) }
 
     // No more than one byte past the limit is taken of an input, and that one only where it is answered to be too long.
     ensures image_taken { TakesInput result (I.state image.old).left (I.state image.new).left }
@@ -196,9 +192,9 @@ pub fn run<I: Source, S: Source, J: Sink, O: Sink>(
     // The outputs are touched only where the image and the text are written, and only a script reads and prints.
     ensures image_unwritten { UnlessWritten result (image_out.new ≡ image_out.old) }
     ensures unwritten { UnlessWritten result (out.new ≡ out.old) }
-    ensures unprinted { UnlessScript (job_of (map string_bytes words.now)) (out.new ≡ out.old) }
-    ensures image_unread { UnlessScript (job_of (map string_bytes words.now)) (image.new ≡ image.old) }
-    ensures unread { UnlessScript (job_of (map string_bytes words.now)) (input.new ≡ input.old) }
+    ensures unprinted { UnlessScript (asked_by words.now) (out.new ≡ out.old) }
+    ensures image_unread { UnlessScript (asked_by words.now) (image.new ≡ image.old) }
+    ensures unread { UnlessScript (asked_by words.now) (input.new ≡ input.old) }
 {
     match read_job(alloc, words) {
         Err(WordsError::Usage) => Status::Usage,

@@ -1,4 +1,4 @@
-use Rattle.std.proofs.Common.{◌≡◌, ◌∙◌, ap}
+use Rattle.std.proofs.Common.{◌∙◌, ap}
 use Rattle.script_text.specs.Printed.{history_text}
 use Rattle.session_serve.proofs.Endings.{image-same, leaves}
 use Rattle.session_serve.proofs.leaving.play_core.Goals as goal

@@ -1,4 +1,4 @@
-use Rattle.std.proofs.Common.{◌≡◌, ℕ, List, ap, subst}
+use Rattle.std.proofs.Common.{ℕ, List, ap, subst}
 use Rattle.mv_model.specs.declared.reply.Entry.{Entry}
 use Rattle.engine_core.specs.LogicalState.{logical_state}
 use Rattle.session_serve.specs.Playing.{IsInCall}

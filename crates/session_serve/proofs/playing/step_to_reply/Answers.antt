@@ -1,4 +1,4 @@
-use Rattle.std.proofs.Common.{◌≡◌, ◌≢◌, ◌∙◌, Some, ap, sym, refl}
+use Rattle.std.proofs.Common.{◌∙◌, Some, ap, sym, refl}
 use Rattle.session_serve.proofs.Events.{both_ways, cut_now, in_call-begin, still_before}
 use Rattle.session_serve.proofs.playing.step_to_reply.Goals as goal
 

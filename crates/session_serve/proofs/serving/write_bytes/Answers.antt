@@ -1,5 +1,5 @@
 use Rattle.std.proofs.lemmas.Result.{err_from_is_err_and}
-use Rattle.session_serve.proofs.Writes.{front_of_all, front_of_part}
+use Rattle.session_serve.proofs.Writes.{front_of_part}
 use Rattle.session_serve.proofs.serving.write_bytes.Goals as goal
 
 pub returns-in_err-write_all-clause-failed : goal.returns-in_err-write_all-clause-failed
