@@ -28,7 +28,7 @@ use Rattle.opening_steps.proofs.Steps.{step_by, step_keeps, StepStays}
 
 -- ── one value at many places ──
 
-stores_each : (Q : ℕ → ℕ → Type 0) (value : ℕ) (spots : List ℕ) → ((place : ℕ) → Contains spots place → Q place value) → Stores Q (stores value spots)
+pub stores_each : (Q : ℕ → ℕ → Type 0) (value : ℕ) (spots : List ℕ) → ((place : ℕ) → Contains spots place → Q place value) → Stores Q (stores value spots)
 stores_each Q value [] each = tt
 stores_each Q value (place ∷ spots) each = (each place (Contains-here place spots), stores_each Q value spots (λ other is. each other (Contains-there place other spots is)))
 

@@ -24,6 +24,7 @@ pub mod Released
 pub mod Rows
 pub mod Showing
 pub mod Shrinks
+pub mod Silent
 pub mod SlotStep
 pub mod Slots
 pub mod SplitLogs

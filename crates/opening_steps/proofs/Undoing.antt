@@ -295,7 +295,7 @@ module _ (words : List ℕ) (object : ℕ) (image : IsImage words) (number : obj
     }
 
     pub cut_still : StaysQuiet words cut
-    cut_still = taken_stays words cut object image number fits clear open_is cut_taken
+    cut_still = taken_stays words cut object image number fits open_is cut_taken clear
 
   -- ── all of it ──
 
@@ -438,7 +438,7 @@ module _ (words : List ℕ) (object : ℕ) (image : IsImage words) (number : obj
   }
 
   pub closed_still : StaysQuiet words closed
-  closed_still = taken_stays words closed object image number fits clear open_is closed_taken
+  closed_still = taken_stays words closed object image number fits open_is closed_taken clear
 
   none_undecided : (one : ℕ) → one < object + 1 → is_undecided closed one ≡ false
   none_undecided one lt = ⊎_elim
@@ -448,7 +448,7 @@ module _ (words : List ℕ) (object : ℕ) (image : IsImage words) (number : obj
       let none = ap (λ (o : ℕ). get_or closed (state_at o) 0) e ∙ closed_here in
       omega (arith, state, none))
       (λ apart. both_ways (is_undecided words one) (has.2 one (omega (arith, lt, apart)))
-      (was_undecided words closed object image number fits clear open_is closed_taken one (omega (arith, lt, number)) is))
+      (was_undecided words closed object image number fits open_is closed_taken one (omega (arith, lt, number)) is))
       (cases_eq one object)))
       (λ none. none)
       (cases_Bool (is_undecided closed one))
@@ -456,7 +456,7 @@ module _ (words : List ℕ) (object : ℕ) (image : IsImage words) (number : obj
   pub goes_on : AreUndone (object + 1) closed
   goes_on = (
     none_new words closed (IsUndoWord words) image fits clear (undo_may_change words fits) closed_taken.only,
-    last_kept words closed object image number fits clear open_is closed_taken ∙ has.1 ∙ sym (last_same words closed object image number fits clear open_is closed_taken),
+    last_kept words closed object image number fits open_is closed_taken ∙ has.1 ∙ sym (last_same words closed object image number fits open_is closed_taken),
     none_undecided,
   )
 

@@ -20,7 +20,7 @@ use Rattle.image_layout.proofs.OwnersApart.{all_from}
 use Rattle.image_layout.proofs.TableSlots.{few_tables}
 use Rattle.shown_state.specs.Fits.{CreatorFits, creator, ender, EnderFits, Fits, IsEnded, IsUndecided, is_undecided, used_up}
 use Rattle.shown_state.specs.LogicalState.{created_rows, next_row_of, row_bound}
-use Rattle.shown_state.specs.OpeningParts.{IsImage}
+use Rattle.shown_state.specs.OpeningParts.{FitsStill, IsImage}
 use Rattle.shown_state.specs.StepLaws.{HaveNoNew}
 use Rattle.shown_state.proofs.Alike.{map_alike, map_below}
 use Rattle.shown_state.proofs.SameLeaves.{values_same}
@@ -95,7 +95,7 @@ created_below words object table row low few has =
     let bound = fold_max-each 0 (map (λ r. r + 1) (created_rows words object table)) (entry_row word + 1) (map-Contains (λ r. r + 1) (created_rows words object table) (entry_row word) rows) in
     omega (arith, bound, at)
 
-module _ (old new : List ℕ) (object : ℕ) (image : IsImage old) (number : object < 16) (fits : Fits old) (clear : HaveNoNew 512 old)
+module _ (old new : List ℕ) (object : ℕ) (image : IsImage old) (number : object < 16) (fits : Fits old)
     (open_is : is_undecided old object ≡ true) (taken : IsTaken old new object) where
   may : MayChange old (IsUndoWord old)
   may = undo_may_change old fits
@@ -394,13 +394,10 @@ module _ (old new : List ℕ) (object : ℕ) (image : IsImage old) (number : obj
     rows = λ table lt. rows_same old new same table lt fits.entry.arrays (alike table lt) (λ column is. values_same old new fits.entry.trees column is (same_tree old new same column is)) (fits.rows table lt);
   }
 
-  pub taken_stays : StaysQuiet old new
-  taken_stays = record {
-    still = record {
-      fits = still_fits old new (IsUndoWord old) image fits may taken.only transactions;
-      shows = state_same old new same fits.entry.arrays fits.codes stamps fits.rows;
-    };
-    quiet = none_new old new (IsUndoWord old) image fits clear may taken.only;
+  pub taken_still : FitsStill old new
+  taken_still = record {
+    fits = still_fits old new (IsUndoWord old) image fits may taken.only transactions;
+    shows = state_same old new same fits.entry.arrays fits.codes stamps fits.rows;
   }
     where
       stamps : StampsAlike old new
@@ -426,3 +423,6 @@ module _ (old new : List ℕ) (object : ℕ) (image : IsImage old) (number : obj
             ∙ sym (ne_eqb (array_word old (ended_header (table_block old table)) row) commit (λ e. omega (arith, above, e, most))))
             (taken.enders table row lt within);
       }
+
+  pub taken_stays : HaveNoNew 512 old → StaysQuiet old new
+  taken_stays clear = record { still = taken_still; quiet = none_new old new (IsUndoWord old) image fits clear may taken.only }

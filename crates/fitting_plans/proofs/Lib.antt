@@ -1,0 +1,5 @@
+mod Begin
+mod Clear
+mod EntriesApart
+mod Retire
+mod Storing

@@ -1,0 +1,43 @@
+-- What the plans of a transaction ask of its object, in an image that fits together, whatever else is half done in it.
+use Rattle.std.specs.Prelude.{◌≡◌, ◌⊎◌, ℕ, ◌<◌, ◌≤◌, IsTrue, List, slice_index, All, Contains}
+use Rattle.image_layout.specs.Fixed.{state_at}
+use Rattle.image_layout.specs.Objects.{commit_word, entries, entry_places, entry_word, last_commit}
+use Rattle.image_layout.specs.Records.{created_header, ended_header, high_at}
+use Rattle.image_layout.specs.Arrays.{capacity}
+use Rattle.image_layout.specs.SoundRules.{no_commit}
+use Rattle.image_layout.specs.Tables.{table_block, table_count}
+use Rattle.shown_state.specs.Fits.{Fits, creator, ender, is_undecided}
+use Rattle.shown_state.specs.LogicalState.{created_rows, row_bound}
+use Rattle.shown_state.specs.OpeningParts.{IsImage}
+
+-- an image that fits together, and one of its objects
+pub record IsObjectOf (words : List ℕ) (object : ℕ) : Type 0 where
+  pub image : IsImage words
+  pub fits : Fits words
+  pub number : object < 16
+
+-- the object has no commit word and no entry, so a transaction may begin in it
+pub record MayBegin (words : List ℕ) (object : ℕ) : Type 0 where
+  pub its : IsObjectOf words object
+  pub unset : commit_word words object ≡ 0
+  pub none : All (λ at. slice_index words at ≡ 0) (entry_places words object)
+
+-- An undecided transaction of which nothing needs to be undone: the rows that it created are used up, and each has the
+-- stamp of a commit or none, or is dead; and each that it ended has the stamp of a commit or none.
+pub record MayClose (words : List ℕ) (object : ℕ) : Type 0 where
+  pub its : IsObjectOf words object
+  pub undecided : IsTrue (is_undecided words object)
+  pub created : (table row : ℕ) → table < table_count words
+      → row < capacity words (created_header (table_block words table))
+      → Contains (entries words object) (entry_word 1 table row)
+      → (creator words table row ≡ no_commit) ⊎ (creator words table row ≤ last_commit words)
+  pub ended : (table row : ℕ) → table < table_count words
+      → row < capacity words (ended_header (table_block words table))
+      → Contains (entries words object) (entry_word 2 table row) → ender words table row ≤ last_commit words
+  pub used_up : (table : ℕ) → table < table_count words
+      → row_bound (created_rows words object table) ≤ slice_index words (high_at (table_block words table))
+
+-- the object is closed, so its entries and its commit word may be cleared
+pub record MayClear (words : List ℕ) (object : ℕ) : Type 0 where
+  pub its : IsObjectOf words object
+  pub closed : slice_index words (state_at object) ≡ 0

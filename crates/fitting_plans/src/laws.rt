@@ -1,0 +1,26 @@
+// The laws of a transaction's plans.
+ghost use Rattle.std.specs.Prelude.{ℕ, Bool, List};
+ghost use Rattle.pm_model.specs.Plans.{EachCut, unless_empty};
+ghost use Rattle.shown_state.specs.OpeningParts.{FitsStill};
+ghost use Rattle.txn_object.specs.Object.{begin_parts, clear_part, retire_parts};
+ghost use Rattle.fitting_plans.specs.Transactions.{MayBegin, MayClear, MayClose};
+
+/// A law for proofs: each cut of a begin keeps what fits together, and shows the same.
+pub fn begin_law()
+    ensures { (words : List ℕ) (object : ℕ) → MayBegin words object
+        → EachCut (FitsStill words) (begin_parts object) words }
+{}
+
+/// A law for proofs: so does each cut of a retire, of so many entries and with or without the commit word, where
+/// nothing of the transaction needs to be undone.
+pub fn retire_law()
+    ensures { (words : List ℕ) (object count : ℕ) (word : Bool) → MayClose words object
+        → EachCut (FitsStill words) (retire_parts words object count word) words }
+{}
+
+/// A law for proofs: so does each cut of the clearing of a closed object, of so many entries and with or without the
+/// commit word.
+pub fn clear_law()
+    ensures { (words : List ℕ) (object count : ℕ) (word : Bool) → MayClear words object
+        → EachCut (FitsStill words) (unless_empty (clear_part words object count word)) words }
+{}
