@@ -1,8 +1,10 @@
 -- The numbered rules of an image at rest, as far as they stand. They are tried in this order.
-use Rattle.std.specs.Prelude.{List, [], ◌∷◌, ◌++◌}
-use Rattle.image_layout.specs.Checks.{Numbered, numbered}
+use Rattle.std.specs.Prelude.{◌≡◌, ℕ, List, [], ◌∷◌, ◌++◌, None, Some}
+use Rattle.image_layout.specs.Checks.{Numbered, first_fault, numbered}
 use Rattle.image_layout.specs.SoundRules.{idle_rule, split_log_rule, closed_rule, stamp_rule, given_back_rule, distinct_name_rule, latest_version_rule}
 use Rattle.image_rules.specs.NumberedRules.{entry_rules}
+use Rattle.img_check.specs.declared.error.CheckError.{CheckError}
+use Rattle.img_check.specs.declared.error.CheckError.TheVariants.{Unsound, NoMemory as OutOfMemory}
 use Rattle.image_rules.specs.BuiltOwners.{built_owner_rule, built_single_owner_rule, built_owned_rule}
 
 -- nothing is half done
@@ -25,3 +27,9 @@ content_rules =
 
 abbrev pub sound_rules : List Numbered
 sound_rules = rules_without_memory ++ owner_rules ++ content_rules
+
+-- why the words are refused: this is the first rule that they break, and the first place where they do; or memory ran
+-- out, and they keep the rules that are tried without it
+abbrev pub IsCauseOf : List ℕ → CheckError → Type 0
+IsCauseOf words OutOfMemory = first_fault rules_without_memory words ≡ None
+IsCauseOf words (Unsound rule place) = first_fault sound_rules words ≡ Some (record { rule = rule; place = place })

@@ -4,7 +4,7 @@ ghost use Rattle.image_layout.specs.Checks.{Keeps, first_fault};
 ghost use Rattle.image_layout.specs.EntryRules.{table_count_rule, table_slot_rule, arrays_rule, objects_rule};
 ghost use Rattle.image_rules.specs.NumberedRules.{told};
 ghost use Rattle.img_check.specs.declared.error.CheckError.TheVariants.{Unsound, NoMemory as OutOfMemory};
-ghost use Rattle.img_check.specs.StandingRules.{closing_rules, content_rules, owner_rules, rules_without_memory, sound_rules};
+ghost use Rattle.img_check.specs.StandingRules.{IsCauseOf, closing_rules, content_rules, owner_rules, rules_without_memory, sound_rules};
 
 use crate::error::CheckError;
 use image_rules::{
@@ -27,9 +27,7 @@ pub fn check(alloc: Global, words: &[u64]) -> Result<(), CheckError>
     requires one_or_more { 32768 ≤ length words.now }
     requires most { length words.now ≤ 4194304 }
     ensures sound { IfOk result (λ _. first_fault sound_rules words.now ≡ None) }
-    ensures fault { IfErr result (λ error. ((error ≡ OutOfMemory) × (first_fault rules_without_memory words.now ≡ None))
-        ⊎ ((rule place : ℕ) × (first_fault sound_rules words.now ≡ Some (record { rule = rule; place = place }))
-        × (error ≡ Unsound rule place))) }
+    ensures fault { IfErr result (λ error. IsCauseOf words.now error) }
 {
     match sound_fault(alloc, words) {
         Ok(Some(found)) => Err(CheckError::Unsound {
