@@ -261,7 +261,7 @@ goes_on words tree lead probe key code old new is inserted =
     (subst (λ (n : ℕ). n < 2 ^ 32) (sym inserted.code_is) is.small) in
     record {
       stands = (place.before ++ i.leaf ∷ place.after, after);
-      may = λ index lane segments some live may.
-          may_plan words segments some tree.column place.before place.after i inserted.may index lane may place.leaves_are
+      may = λ index lane whole live may.
+          may_plan words whole.0 whole.1 tree.column place.before place.after i inserted.may index lane may place.leaves_are
           (subst (IsLeadLive words) (sym inserted.lead_is) live) (list_is (inserted_words words i) tree (place.before ++ i.leaf ∷ place.after) after);
     }

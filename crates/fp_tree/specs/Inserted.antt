@@ -1,12 +1,14 @@
 -- What the planning of an insertion gives.
-use Rattle.std.specs.Prelude.{◌≡◌, ℕ, ◌%◌, ◌^◌, ◌<◌, ◌≤◌, IsTrue, Option, None, Some, List, ◌∷◌, ◌++◌, length, slice_index}
+use Rattle.std.specs.Prelude.{◌≡◌, ℕ, ◌%◌, ◌^◌, ◌<◌, ◌≤◌, IsTrue, Option, None, Some, List, [], ◌∷◌, ◌++◌, length, slice_index}
 use Rattle.fp_inner.specs.declared.probe.Probe.{Probe}
 use Rattle.fp_leaf.specs.Slots.{AreUsedBelow}
 use Rattle.image_layout.specs.Trees.{leaf_list}
 use Rattle.image_layout.specs.declared.place.Place.{Place}
 use Rattle.pm_model.specs.declared.action.Action.{Action}
-use Rattle.pm_model.specs.Plans.{finished, plan_of}
-use Rattle.tree_cuts.specs.Insertion.{Insertion, Lead, MayInsert, insertion_parts}
+use Rattle.pm_model.specs.Plans.{Part, finished, plan_of, store}
+use Rattle.tree_cuts.specs.Insertion.{Insertion, Lead, MayInsert, insertion_parts, lead_part, with_byte}
+use Rattle.image_layout.specs.Records.{code_at, fingerprint_at, key_at}
+use Rattle.fp_tree.specs.declared.inserting.NewPair.{NewPair}
 use Rattle.fp_tree.specs.Changes.{IsBetweenLeaves, insertion}
 use Rattle.heap_palloc.specs.Index.{HeapIndex}
 use Rattle.fp_tree.specs.Planned.{IsInBlock, MayPlanLeaf}
@@ -18,6 +20,26 @@ use Rattle.fp_inner.specs.Keys.{kind_of}
 abbrev pub lead_of : Option (Place × ℕ) → Option Lead
 lead_of None = None
 lead_of (Some lead) = Some (record { place = lead.0.0; value = lead.1 })
+
+-- a new pair as an insertion, with this lead
+abbrev pub insertion_of : NewPair → Option Lead → Insertion
+insertion_of pair lead =
+    record { leaf = pair.leaf.0; slot = pair.slot; key = pair.key; code = pair.code; lead = lead }
+
+-- the stores of a new pair: its key word, its code, and its fingerprint among those of its word
+abbrev pub new_pair_stores : List ℕ → NewPair → Part
+new_pair_stores words pair =
+    store (key_at pair.leaf.0 pair.slot) pair.key
+    ∷ store (code_at pair.leaf.0 pair.slot) pair.code
+    ∷ store (fingerprint_at pair.leaf.0 pair.slot)
+    (with_byte (slice_index words (fingerprint_at pair.leaf.0 pair.slot)) (pair.slot % 8) pair.print)
+    ∷ []
+
+-- Where some actions end with a lead, so many of them, the insertion with this lead stands in its place then.
+abbrev pub HasInsertion : List ℕ → NewPair → ℕ → List Action → List Action → Type 0
+HasInsertion words pair led before after =
+    (old : List Action) (lead : Option Lead) → before ≡ old ++ lead_part lead → led ≡ length (lead_part lead)
+    → after ≡ old ++ plan_of (insertion_parts words (insertion_of pair lead))
 
 -- The place for a key: the least free slot of the leaf of what is looked for. The key stands between the leaves before
 -- it and those after it, and may be put in there with any code.
@@ -55,6 +77,10 @@ abbrev pub IsLeadLive : List ℕ → Option Lead → Type 0
 IsLeadLive words None = Unit {0}
 IsLeadLive words (Some lead) = IsInBlock words lead.place 1
 
+-- some whole segments
+abbrev pub HasSegments : List ℕ → Type 0
+HasSegments words = (length words % 32768 ≡ 0) × (32768 ≤ length words)
+
 -- the words after an insertion
 abbrev pub inserted_words : List ℕ → Insertion → List ℕ
 inserted_words words pair = finished (insertion_parts words pair) words
@@ -63,5 +89,11 @@ inserted_words words pair = finished (insertion_parts words pair) words
 -- then, where it might be before.
 pub record GoesOnInserted (words : List ℕ) (tree : TreeState) (lead : Option Lead) (pair : Insertion) : Type 0 where
   pub stands : Stands (inserted_words words pair) tree
-  pub may : (index : HeapIndex) (lane : ℕ) → length words % 32768 ≡ 0 → 32768 ≤ length words → IsLeadLive words lead
+  pub may : (index : HeapIndex) (lane : ℕ) → HasSegments words → IsLeadLive words lead
       → MayPlanLeaf words index lane tree.column → MayPlanLeaf (inserted_words words pair) index lane tree.column
+
+-- the same of an insertion that is planned of a key that the tree may have
+abbrev pub InsertionGoesOn : List ℕ → TreeState → Option Lead → Probe → ℕ → ℕ → List Action → List Action → Type 0
+InsertionGoesOn words tree lead probe key code old new =
+    IsKeyFor words tree probe key code → (inserted : IsInserted words tree.column lead probe key code old new)
+    → GoesOnInserted words tree lead inserted.pair

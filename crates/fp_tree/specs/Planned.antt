@@ -49,6 +49,10 @@ pub record GoesOn (words : List ℕ) (index : HeapIndex) (lane : ℕ) (tree : Tr
   pub stands : Stands words tree
   pub may : MayPlanLeaf words index lane tree.column
 
+-- the words after a first leaf
+abbrev pub words_with_first : List ℕ → ℕ → Choice → List ℕ
+words_with_first words column choice = finished ((getting_first column choice).parts words) words
+
 -- A first leaf is planned: these actions, and it stands where the heap chooses. Once they were played, the tree goes
 -- on, and has room for any key.
 pub record IsFirstPlanned (words : List ℕ) (old new : HeapIndex) (lane : ℕ) (tree after : TreeState)
@@ -59,10 +63,10 @@ pub record IsFirstPlanned (words : List ℕ) (old new : HeapIndex) (lane : ℕ) 
   pub may : MayGetFirst tree.column choice words
   pub plan_is : plan ≡ plan_of ((getting_first tree.column choice).parts words)
   pub column_is : after.column ≡ tree.column
-  pub goes_on : GoesOn (finished ((getting_first tree.column choice).parts words) words) new lane after
+  pub goes_on : GoesOn (words_with_first words tree.column choice) new lane after
   pub room : (probe : Probe) → kind_of probe ≡ after.inner.kind
-      → room_in (finished ((getting_first tree.column choice).parts words) words) probe
-      (leaf_list (finished ((getting_first tree.column choice).parts words) words) tree.column) ≡ Free
+      → room_in (words_with_first words tree.column choice) probe
+      (leaf_list (words_with_first words tree.column choice) tree.column) ≡ Free
 
 -- the words after a split
 abbrev pub split_words : List ℕ → Splitting → List ℕ

@@ -125,6 +125,10 @@ abbrev pub is_likely : List ℕ → ℕ → Probe → ℕ → Bool
 is_likely words leaf probe slot =
     is_used (slice_index words leaf) slot && (slot_fingerprint words leaf slot == print_of probe)
 
+-- how many slots of its leaf are likely
+abbrev pub likely_slots : List ℕ → ℕ → Probe → ℕ
+likely_slots words column probe = count_below (is_likely words (probe_leaf words column probe) probe) 48
+
 -- what there is room for: by the leaf of what is looked for, where the column has one
 abbrev pub room_in : List ℕ → Probe → List ℕ → Room
 room_in words probe [] = NoLeaf

@@ -21,7 +21,11 @@ impl Tree {
     /// Plans the first leaf of a tree without one: it is allocated through the lane, made empty, and becomes the first.
     ///
     /// The plan may be played by any session, where the words that it writes are clean. Once it was played, the tree
-    /// stands for the words. After an error the heap and the leaves of the tree are as they were.
+    /// stands for the words, and has room for any key.
+    ///
+    /// Errors: `Full` exactly where no slot of a leaf's class is free and no page is: it says that one page is needed,
+    /// and that the longest run of free pages has none. `NoMemory` where a request for memory was refused. After either
+    /// the heap and the leaves of the tree are as they were; the index may have room for one leaf more.
     pub fn plan_first<M: Memory>(
         &mut self,
         alloc: Global,

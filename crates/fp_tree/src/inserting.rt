@@ -1,12 +1,9 @@
 // The insertion of a pair.
-ghost use Rattle.std.specs.Prelude.{◌≡◌, ◌+◌, ◌<◌, ◌≤◌, ◌%◌, ◌++◌, [], ◌∷◌, ℕ, IfOk, IsTrue, List, None, Option, length, slice_index};
+ghost use Rattle.std.specs.Prelude.{◌≡◌, ◌+◌, ◌<◌, ◌≤◌, ◌++◌, [], IfOk, IsTrue, None, length};
 ghost use Rattle.fp_inner.specs.Keys.{kind_of};
-ghost use Rattle.image_layout.specs.Records.{code_at, fingerprint_at, key_at};
 ghost use Rattle.image_layout.specs.Trees.{integer_fingerprint, leaf_list};
-ghost use Rattle.pm_model.specs.declared.action.Action.{Action};
-ghost use Rattle.pm_model.specs.Plans.{plan_of, store};
-ghost use Rattle.tree_cuts.specs.Insertion.{IsLead, Lead, insertion_parts, lead_part, with_byte};
-ghost use Rattle.fp_tree.specs.Inserted.{IsInserted, IsPlaceFor, lead_of};
+ghost use Rattle.tree_cuts.specs.Insertion.{IsLead, lead_part, with_byte};
+ghost use Rattle.fp_tree.specs.Inserted.{HasInsertion, IsInserted, IsPlaceFor, lead_of, new_pair_stores};
 ghost use Rattle.fp_tree.specs.Standing.{HasNoKey, Stands, is_key, print_of, room_in};
 ghost use Rattle.fp_tree.specs.declared.room.Room.TheVariants.{Free};
 
@@ -134,9 +131,7 @@ fn push_insertion<M: Memory>(plan: &mut Plan, mem: &M, pair: NewPair, led: u32)
     requires led { led ≤ 1 }
     requires count { led ≤ length plan.old.left }
     requires room { 10 + led ≤ plan.old.spare }
-    ensures { (old : List Action) (lead : Option Lead) → plan.old.left ≡ old ++ lead_part lead →
-        led ≡ length (lead_part lead) → plan.new.left ≡ old ++ plan_of (insertion_parts (M.device mem.now).cached
-        (record { leaf = pair.leaf.0; slot = pair.slot; key = pair.key; code = pair.code; lead = lead })) }
+    ensures { HasInsertion (M.device mem.now).cached pair led plan.old.left plan.new.left }
 {
     push_pair(plan, mem, pair);
     // The pair is fenced before its slot is used: else the slot's old words would be a pair.
@@ -150,11 +145,7 @@ fn push_pair<M: Memory>(plan: &mut Plan, mem: &M, pair: NewPair)
     requires slot { pair.slot < 48 }
     requires within { pair.leaf.0 + 104 ≤ length (M.device mem.now).cached }
     requires room { 3 ≤ plan.old.spare }
-    ensures left { plan.new.left ≡ plan.old.left
-        ++ store (key_at pair.leaf.0 pair.slot) pair.key ∷ store (code_at pair.leaf.0 pair.slot) pair.code
-        ∷ store (fingerprint_at pair.leaf.0 pair.slot)
-        (with_byte (slice_index (M.device mem.now).cached (fingerprint_at pair.leaf.0 pair.slot))
-        (pair.slot % 8) pair.print) ∷ [] }
+    ensures left { plan.new.left ≡ plan.old.left ++ new_pair_stores (M.device mem.now).cached pair }
     ensures spare { plan.new.spare + 3 ≡ plan.old.spare }
 {
     let at = key_place(pair.leaf, pair.slot);

@@ -1,12 +1,12 @@
 // The pairs from one key to another.
-ghost use Rattle.std.specs.Prelude.{◌≡◌, ◌+◌, ◌<◌, ◌≤◌, ◌++◌, [], ◌∷◌, IfOk, filter, length, map, slice_index};
+ghost use Rattle.std.specs.Prelude.{◌≡◌, ◌+◌, ◌<◌, ◌≤◌, ◌++◌, [], ◌∷◌, IfOk, length, map, slice_index};
 ghost use Rattle.fp_inner.specs.Keys.{kind_of, leaf_pointer};
 ghost use Rattle.image_layout.specs.Pointer.{pointer_word};
 ghost use Rattle.image_layout.specs.Trees.{leaf_pairs, pair_at};
 ghost use Rattle.mv_model.specs.declared.shape.Kind.TheVariants.{Int as Ints};
 ghost use Rattle.std.specs.Int.{bit_at};
 ghost use Rattle.fp_tree.specs.Leaves.{without_slot};
-ghost use Rattle.fp_tree.specs.Ranges.{is_from_to, pairs_from_to};
+ghost use Rattle.fp_tree.specs.Ranges.{from_to, is_from_to, pairs_from_to};
 ghost use Rattle.fp_tree.specs.Standing.{IsSoundLeaf, Stands};
 
 use crate::reading::{SLOTS, key_place};
@@ -98,8 +98,7 @@ fn push_from_to<M: Memory, L: Ledger>(
     requires sound { IsSoundLeaf (M.device mem.now).cached leaf.0 }
     requires room { 48 ≤ list.old.spare }
     ensures pairs { map without_slot list.new.pairs ≡ map without_slot list.old.pairs
-        ++ filter (λ pair. is_from_to (M.device mem.now).cached low.now high.now pair.key)
-        (leaf_pairs (M.device mem.now).cached leaf.0) }
+        ++ from_to (M.device mem.now).cached low.now high.now (leaf_pairs (M.device mem.now).cached leaf.0) }
     ensures spare { list.old.spare ≤ list.new.spare + 48 }
 {
     let bitmap = mem.load(leaf);
@@ -128,8 +127,7 @@ fn push_slot_from_to<M: Memory, L: Ledger>(
     requires used { bit_at (slice_index (M.device mem.now).cached leaf.0) slot ≡ 1 }
     requires room { 0 < list.old.spare }
     ensures pairs { map without_slot list.new.pairs ≡ map without_slot list.old.pairs
-        ++ filter (λ pair. is_from_to (M.device mem.now).cached low.now high.now pair.key)
-        (pair_at (M.device mem.now).cached leaf.0 slot ∷ []) }
+        ++ from_to (M.device mem.now).cached low.now high.now (pair_at (M.device mem.now).cached leaf.0 slot ∷ []) }
     ensures spare { list.old.spare ≤ list.new.spare + 1 }
 {
     let at = key_place(leaf, slot);

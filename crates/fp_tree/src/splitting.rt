@@ -25,8 +25,11 @@ impl Tree {
     /// greatest pairs, and stands behind the old one.
     ///
     /// The plan may be played by any session, where the words that it writes are clean. Each cut of it shows the same
-    /// pairs. Once it was played, the tree stands for the words, and has room for what is looked for. After an error
-    /// the heap and the leaves of the tree are as they were.
+    /// pairs. Once it was played, the tree stands for the words, and has room for what is looked for.
+    ///
+    /// Errors: `Full` exactly where no slot of a leaf's class is free and no page is: it says that one page is needed,
+    /// and that the longest run of free pages has none. `NoMemory` where a request for memory was refused. After either
+    /// the heap and the leaves of the tree are as they were; the index may have room for one leaf more.
     pub fn plan_split<M: Memory>(
         &mut self,
         alloc: Global,

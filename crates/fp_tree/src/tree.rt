@@ -3,7 +3,7 @@ ghost use Rattle.std.specs.Prelude.{◌≡◌, ◌+◌, ◌<◌, ◌≤◌, [], 
 ghost use Rattle.fp_inner.specs.Keys.{binary_digits, kind_of};
 ghost use Rattle.image_layout.specs.Trees.{leaf_list};
 ghost use Rattle.fp_tree.specs.Searched.{IsLeafAt};
-ghost use Rattle.fp_tree.specs.Standing.{HasNoKey, HasPair, Stands, count_below, is_likely, probe_leaf, room_in};
+ghost use Rattle.fp_tree.specs.Standing.{HasNoKey, HasPair, Stands, likely_slots, room_in};
 
 use crate::reading::{find_in_leaf, is_full};
 use crate::room::Room;
@@ -50,8 +50,7 @@ impl Tree {
         ensures found { IfSome result (HasPair (M.device mem.now).cached self.now.column probe.now) }
         ensures none { IfNone result (HasNoKey (M.device mem.now).cached self.now.column probe.now) }
         ensures steps { steps.new ≤ steps.old + binary_digits (length self.now.inner.leaves)
-            + count_below (is_likely (M.device mem.now).cached
-            (probe_leaf (M.device mem.now).cached self.now.column probe.now) probe.now) 48 }
+            + likely_slots (M.device mem.now).cached self.now.column probe.now }
     {
         match self.leaf_counted(mem, probe, steps) {
             Some(leaf) => find_in_leaf(mem, leaf, probe, steps),
