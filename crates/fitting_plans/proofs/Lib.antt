@@ -1,5 +1,7 @@
 mod Begin
 mod Clear
+mod Enter
 mod EntriesApart
+mod EntryChecks
 mod Retire
 mod Storing

@@ -1,13 +1,16 @@
 -- What the plans of a transaction ask of its object, in an image that fits together, whatever else is half done in it.
-use Rattle.std.specs.Prelude.{◌≡◌, ◌⊎◌, ℕ, ◌<◌, ◌≤◌, IsTrue, List, slice_index, All, Contains}
+use Rattle.std.specs.Prelude.{◌≡◌, ◌≢◌, ◌⊎◌, ℕ, ◌+◌, ◌<◌, ◌≤◌, max, ◌&&◌, ◌==◌, if◌then◌else◌, IsTrue, List, length, map, slice_index, All, Contains}
+use Rattle.mv_model.specs.State.{State, all_idle}
 use Rattle.image_layout.specs.Fixed.{state_at}
-use Rattle.image_layout.specs.Objects.{commit_word, entries, entry_places, entry_word, last_commit}
+use Rattle.image_layout.specs.Places.{below}
+use Rattle.image_layout.specs.Objects.{commit_word, entries, entry_kind, entry_places, entry_row, entry_table, entry_word, last_commit}
 use Rattle.image_layout.specs.Records.{created_header, ended_header, high_at}
 use Rattle.image_layout.specs.Arrays.{capacity}
+use Rattle.image_layout.specs.EntryRules.{is_entry}
 use Rattle.image_layout.specs.SoundRules.{no_commit}
 use Rattle.image_layout.specs.Tables.{table_block, table_count}
 use Rattle.shown_state.specs.Fits.{Fits, creator, ender, is_undecided}
-use Rattle.shown_state.specs.LogicalState.{created_rows, row_bound}
+use Rattle.shown_state.specs.LogicalState.{created_rows, logical_state, next_row_of, row_bound, table_of}
 use Rattle.shown_state.specs.OpeningParts.{IsImage}
 
 -- an image that fits together, and one of its objects
@@ -41,3 +44,40 @@ pub record MayClose (words : List ℕ) (object : ℕ) : Type 0 where
 pub record MayClear (words : List ℕ) (object : ℕ) : Type 0 where
   pub its : IsObjectOf words object
   pub closed : slice_index words (state_at object) ≡ 0
+
+-- The next entry of an undecided transaction: the entry words before this one are set, it isn't, and the new word is an
+-- entry of a published table and of a row whose stamps have words.
+pub record MayEnter (words : List ℕ) (object nth word : ℕ) : Type 0 where
+  pub its : IsObjectOf words object
+  pub undecided : IsTrue (is_undecided words object)
+  pub room : nth < length (entry_places words object)
+  pub before : (earlier : ℕ) → earlier < nth
+      → slice_index words (slice_index (entry_places words object) earlier) ≢ 0
+  pub free : slice_index words (slice_index (entry_places words object) nth) ≡ 0
+  pub says : IsTrue (is_entry words word)
+
+-- the next row of a table once an entry says that a row was created: it is behind that row
+abbrev pub next_with : List ℕ → ℕ → ℕ → ℕ
+next_with words word table =
+    (if (entry_kind word == 1) && (entry_table word == table)
+    then max (next_row_of words table) (entry_row word + 1) else next_row_of words table)
+
+-- what is shown once it does: the same commits, and the tables with these next rows
+abbrev pub shown_with : List ℕ → ℕ → State
+shown_with words word =
+    record {
+      tables =
+          map (λ table. record {
+            name = (table_of words table).name;
+            columns = (table_of words table).columns;
+            next_row = next_with words word table;
+          }) (below (table_count words));
+      commits = (logical_state words).commits;
+      begun = 0;
+      running = all_idle;
+    }
+
+-- it fits together, and shows the same, or that besides
+pub record FitsOrGives (words : List ℕ) (word : ℕ) (image : List ℕ) : Type 0 where
+  pub fits : Fits image
+  pub shows : (logical_state image ≡ logical_state words) ⊎ (logical_state image ≡ shown_with words word)

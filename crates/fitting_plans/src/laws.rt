@@ -3,7 +3,8 @@ ghost use Rattle.std.specs.Prelude.{ℕ, Bool, List};
 ghost use Rattle.pm_model.specs.Plans.{EachCut, unless_empty};
 ghost use Rattle.shown_state.specs.OpeningParts.{FitsStill};
 ghost use Rattle.txn_object.specs.Object.{begin_parts, clear_part, retire_parts};
-ghost use Rattle.fitting_plans.specs.Transactions.{MayBegin, MayClear, MayClose};
+ghost use Rattle.whole_view.specs.TransactionParts.{entry_parts};
+ghost use Rattle.fitting_plans.specs.Transactions.{FitsOrGives, MayBegin, MayClear, MayClose, MayEnter};
 
 /// A law for proofs: each cut of a begin keeps what fits together, and shows the same.
 pub fn begin_law()
@@ -11,8 +12,15 @@ pub fn begin_law()
         → EachCut (FitsStill words) (begin_parts object) words }
 {}
 
-/// A law for proofs: so does each cut of a retire, of so many entries and with or without the commit word, where
-/// nothing of the transaction needs to be undone.
+/// A law for proofs: each cut of an entry keeps what fits together; it shows the same, or the same commits and the next
+/// row of a table behind the row that the entry says was created.
+pub fn entry_law()
+    ensures { (words : List ℕ) (object nth word : ℕ) → MayEnter words object nth word
+        → EachCut (FitsOrGives words word) (entry_parts words object nth word) words }
+{}
+
+/// A law for proofs: each cut of a retire, of so many entries and with or without the commit word, keeps what fits
+/// together, and shows the same, where nothing of the transaction needs to be undone.
 pub fn retire_law()
     ensures { (words : List ℕ) (object count : ℕ) (word : Bool) → MayClose words object
         → EachCut (FitsStill words) (retire_parts words object count word) words }

@@ -261,6 +261,8 @@ module _ (old new : List ℕ) (changed : ℕ → Type 0) (image : IsImage old) (
       alike table lt = record {
         last = last_same;
         used = let high = high_same table lt in let bound = undecided_bound_same table in omega (arith, high, bound);
+        created_room = λ room. let high = high_same table lt in let bound = undecided_bound_same table in omega (arith, high, bound, room);
+        ended_room = λ room. let high = high_same table lt in let bound = undecided_bound_same table in omega (arith, high, bound, room);
         next =
             let next = next_same table lt in
             let rows = fits.rows table lt in

@@ -24,7 +24,8 @@ use Rattle.shown_state.proofs.SameValueRules.{column_among}
 -- what rows ask of transactions
 pub record RowsAlike (old new : List ℕ) (table : ℕ) : Type 0 where
   pub last : last_commit new ≡ last_commit old
-  pub used : used_up new table ≡ used_up old table
+  pub created_room : used_up old table ≤ capacity old (created_header (table_block old table)) → used_up new table ≤ capacity old (created_header (table_block old table))
+  pub ended_room : used_up old table ≤ capacity old (ended_header (table_block old table)) → used_up new table ≤ capacity old (ended_header (table_block old table))
   pub next : next_row_of new table ≤ used_up new table
   pub high : get_or old (high_at (table_block old table)) 0 ≤ get_or new (high_at (table_block new table)) 0
   pub created : (row : ℕ) → row < capacity old (created_header (table_block old table)) → CreatorFits old table row → CreatorFits new table row
@@ -33,10 +34,12 @@ pub record RowsAlike (old new : List ℕ) (table : ℕ) : Type 0 where
   pub committed : (row : ℕ) → row < capacity old (created_header (table_block old table))
       → 1 ≤ creator new table row → creator new table row ≤ last_commit new → creator new table row ≡ creator old table row
 
--- all this is so where the stamps are the same
+-- all this is so where the stamps are the same, and no less is used up
 pub record StampsSame (old new : List ℕ) (table : ℕ) : Type 0 where
   pub last : last_commit new ≡ last_commit old
-  pub used : used_up new table ≡ used_up old table
+  pub used : used_up old table ≤ used_up new table
+  pub created_room : used_up old table ≤ capacity old (created_header (table_block old table)) → used_up new table ≤ capacity old (created_header (table_block old table))
+  pub ended_room : used_up old table ≤ capacity old (ended_header (table_block old table)) → used_up new table ≤ capacity old (ended_header (table_block old table))
   pub next : next_row_of new table ≤ used_up new table
   pub high : get_or new (high_at (table_block new table)) 0 ≡ get_or old (high_at (table_block old table)) 0
   pub created : (row : ℕ) → row < capacity old (created_header (table_block old table)) → array_word new (created_header (table_block old table)) row ≡ array_word old (created_header (table_block old table)) row
@@ -116,7 +119,8 @@ module _ (old new : List ℕ) (same : SamePlaces old new) where
       pub rows_alike : StampsSame old new table → RowsAlike old new table
       rows_alike alike = record {
         last = alike.last;
-        used = alike.used;
+        created_room = alike.created_room;
+        ended_room = alike.ended_room;
         next = alike.next;
         high = let high = alike.high in omega (arith, high);
         created = creator_fits alike;
@@ -126,7 +130,6 @@ module _ (old new : List ℕ) (same : SamePlaces old new) where
 
       pub rows_same : RowsAlike old new table → ((column : ℕ) → Contains (all_columns old) column → dictionary_length new column ≡ dictionary_length old column) → RowsFit old table → RowsFit new table
       rows_same alike lengths fits =
-          let used = alike.used in
           let next = alike.next in
           let place = block_same old new same table lt in
           let created = created_count in
@@ -134,14 +137,15 @@ module _ (old new : List ℕ) (same : SamePlaces old new) where
           let last = alike.last in
           let columns : columns_of new (table_block new table) ≡ columns_of old block = ap (columns_of new) place ∙ columns_same old new same table lt in
           let first_room = fits.created_room in
-          let last_room = fits.ended_room in
+          let first_grown = alike.created_room fits.created_room in
+          let last_grown = alike.ended_room fits.ended_room in
           let high = alike.high in
           let of_column : (column : ℕ) → Contains (columns_of new (table_block new table)) column → Contains (columns_of old block) column = λ column is. subst (λ (cs : List ℕ). Contains cs column) columns is in
           let among : (column : ℕ) → Contains (columns_of old block) column → Contains (all_columns old) column = λ column of. column_among old block column (block_among table lt) of in
           record {
             rows = next;
-            created_room = omega (arith, first_room, used, created);
-            ended_room = omega (arith, last_room, used, ended);
+            created_room = omega (arith, first_grown, created);
+            ended_room = omega (arith, last_grown, ended);
             begun = all_from (λ column. since_of new column ≤ get_or new (high_at (table_block new table)) 0) (columns_of new (table_block new table)) (λ column is.
                 let of = of_column column is in
                 let since = since_same old new same column (among column of) in

@@ -47,7 +47,15 @@ writes_of created ended = record { created = created; ended = ended }
 abbrev state_with : List Table → List WriteSet → State
 state_with tables commits = record { tables = tables; commits = commits; begun = 0; running = all_idle }
 
--- The last commit is the same, and so is the next row of each table; and the same rows have the stamp of a commit so far.
+-- The last commit is the same, and the same rows have the stamp of a commit so far.
+pub record CommitsAlike (old new : List ℕ) : Type 0 where
+  pub last : last_commit new ≡ last_commit old
+  pub created : (table row number : ℕ) → table < table_count old → row < capacity old (created_header (table_block old table)) → 1 ≤ number → number ≤ last_commit old
+      → eqb (array_word new (created_header (table_block old table)) row) number ≡ eqb (array_word old (created_header (table_block old table)) row) number
+  pub ended : (table row number : ℕ) → table < table_count old → row < capacity old (ended_header (table_block old table)) → 1 ≤ number → number ≤ last_commit old
+      → eqb (array_word new (ended_header (table_block old table)) row) number ≡ eqb (array_word old (ended_header (table_block old table)) row) number
+
+-- and so is the next row of each table
 pub record StampsAlike (old new : List ℕ) : Type 0 where
   pub last : last_commit new ≡ last_commit old
   pub next : (table : ℕ) → table < table_count old → next_row_of new table ≡ next_row_of old table
@@ -69,15 +77,18 @@ module _ (old new : List ℕ) (same : SamePlaces old new) where
       ap (λ (name : List ℕ). column_with name (is_text new column)) (name_same (column_name_at column) (column_name_same old new same column is))
       ∙ ap (column_with (name_at old (column_name_at column))) (text_same old new same column is)
 
-  table_same : StampsAlike old new → (table : ℕ) → table < table_count old → table_of new table ≡ table_of old table
-  table_same alike table lt =
+  -- a table is as it was but for its next row
+  pub shape_same : (table : ℕ) → table < table_count old → table_of new table ≡ table_with (name_at old (table_name_at (table_block old table))) (map (column_of old) (columns_of old (table_block old table))) (next_row_of new table)
+  shape_same table lt =
       let block = table_block old table in
       let name = name_at old (table_name_at block) in
       ap (λ (b : ℕ). table_with (name_at new (table_name_at b)) (map (column_of new) (columns_of new b)) (next_row_of new table)) (block_same old new same table lt)
       ∙ ap (λ (n : List ℕ). table_with n (map (column_of new) (columns_of new block)) (next_row_of new table)) (name_same (table_name_at block) (table_name_same old new same block (block_among table lt)))
       ∙ ap (λ (columns : List Column). table_with name columns (next_row_of new table))
-      (map_alike (column_of new) (column_of old) (columns_of new block) (columns_of old block) (columns_same old new same table lt) (λ column of. column_shape_same column (column_among old block column (block_among table lt) of)))
-      ∙ ap (table_with name (map (column_of old) (columns_of old block))) (alike.next table lt)
+      (map_alike (column_of new) (column_of old) (columns_of new block) (columns_of old block) (columns_same old new same table lt) (λ column is. column_shape_same column (column_among old block column (block_among table lt) is)))
+
+  table_same : StampsAlike old new → (table : ℕ) → table < table_count old → table_of new table ≡ table_of old table
+  table_same alike table lt = shape_same table lt ∙ ap (table_with (name_at old (table_name_at (table_block old table))) (map (column_of old) (columns_of old (table_block old table)))) (alike.next table lt)
 
   -- ── values ──
 
@@ -125,7 +136,7 @@ module _ (old new : List ℕ) (same : SamePlaces old new) where
 
     -- ── commits ──
 
-    module _ (alike : StampsAlike old new) (rows : (table : ℕ) → table < table_count old → RowsFit old table) where
+    module _ (alike : CommitsAlike old new) (rows : (table : ℕ) → table < table_count old → RowsFit old table) where
       created_rows_of : (number table : ℕ) → 1 ≤ number → number ≤ last_commit old → table < table_count old
           → map (created_row new table) (rows_stamped new (created_header (table_block new table)) number) ≡ map (created_row old table) (rows_stamped old (created_header (table_block old table)) number)
       created_rows_of number table first last lt =
@@ -161,10 +172,12 @@ module _ (old new : List ℕ) (same : SamePlaces old new) where
           (flat_map_below (created new) (created old) (table_count new) count (count_same old new same) (λ table lt. created_rows_of number table first last lt))
           ∙ ap (writes_of (flat_map (created old) (below count))) (flat_map_below (ended new) (ended old) (table_count new) count (count_same old new same) (λ table lt. ended_rows_of number table first last lt))
 
-      pub state_same : logical_state new ≡ logical_state old
-      unfolding logical_state
-      state_same =
-          ap (λ (tables : List Table). state_with tables (map (λ number. commit_of new (number + 1)) (below (last_commit new)))) (map_below (table_of new) (table_of old) (table_count new) (table_count old) (count_same old new same) (table_same alike))
-          ∙ ap (state_with (map (table_of old) (below (table_count old))))
-          (map_below (λ number. commit_of new (number + 1)) (λ number. commit_of old (number + 1)) (last_commit new) (last_commit old) alike.last
-          (λ number lt. commit_same (number + 1) (omega arith) (omega (arith, lt))))
+      pub commits_same : map (λ number. commit_of new (number + 1)) (below (last_commit new)) ≡ map (λ number. commit_of old (number + 1)) (below (last_commit old))
+      commits_same = map_below (λ number. commit_of new (number + 1)) (λ number. commit_of old (number + 1)) (last_commit new) (last_commit old) alike.last
+          (λ number lt. commit_same (number + 1) (omega arith) (omega (arith, lt)))
+
+    pub state_same : StampsAlike old new → ((table : ℕ) → table < table_count old → RowsFit old table) → logical_state new ≡ logical_state old
+    unfolding logical_state
+    state_same alike rows =
+        ap (λ (tables : List Table). state_with tables (map (λ number. commit_of new (number + 1)) (below (last_commit new)))) (map_below (table_of new) (table_of old) (table_count new) (table_count old) (count_same old new same) (table_same alike))
+        ∙ ap (state_with (map (table_of old) (below (table_count old)))) (commits_same (record { last = alike.last; created = alike.created; ended = alike.ended }) rows)

@@ -61,7 +61,7 @@ none_left words (at ∷ places) none =
     ap (λ (w : ℕ). cond (not (eqb w 0)) (get_or words at 0 ∷ filter (λ word. not (eqb word 0)) (map (λ a. get_or words a 0) places)) (filter (λ word. not (eqb word 0)) (map (λ a. get_or words a 0) places))) (none at (Contains-here at places))
     ∙ rest
 
-zero_checks : (words : List ℕ) (before : ℕ) (places : List ℕ) → ((at : ℕ) → Contains places at → get_or words at 0 ≡ 0) → All Holds (entry_checks words before places)
+pub zero_checks : (words : List ℕ) (before : ℕ) (places : List ℕ) → ((at : ℕ) → Contains places at → get_or words at 0 ≡ 0) → All Holds (entry_checks words before places)
 zero_checks words before [] none = All-nil Holds
 zero_checks words before (at ∷ places) none =
     let word = get_or words at 0 in
@@ -73,7 +73,7 @@ abbrev bounds_of : List ℕ → (ℕ → Bool) → ℕ → List ℕ
 bounds_of words test table = map (λ object. row_bound (created_rows words object table)) (filter test (below 16))
 
 -- a bound isn't less where each object is among those counted with the same rows, or has none
-bounds_least : (one other : List ℕ) (test on : ℕ → Bool) (table : ℕ)
+pub bounds_least : (one other : List ℕ) (test on : ℕ → Bool) (table : ℕ)
     → ((object : ℕ) → object < 16 → test object ≡ true → ((on object ≡ true) × (row_bound (created_rows one object table) ≡ row_bound (created_rows other object table))) ⊎ (row_bound (created_rows one object table) ≡ 0))
     → fold max 0 (bounds_of one test table) ≤ fold max 0 (bounds_of other on table)
 bounds_least one other test on table each = fold_max-most 0 (fold max 0 (bounds_of other on table)) (bounds_of one test table) (omega arith) (λ n is.
@@ -88,7 +88,7 @@ bounds_least one other test on table each = fold_max-most 0 (fold max 0 (bounds_
     (λ none. omega (arith, here, none))
     (each object (Contains-below 16 object parts.0) parts.1))
 
-abbrev rows_of : List ℕ → ℕ → ℕ
+abbrev pub rows_of : List ℕ → ℕ → ℕ
 rows_of words table = row_bound (map entry_row (filter (λ word. eqb (entry_kind word) 1 && eqb (entry_table word) table) words))
 
 module _ (old new : List ℕ) (image : IsImage old) (fits : Fits old) (silent_is : IsSilent old new) where
@@ -219,6 +219,8 @@ module _ (old new : List ℕ) (image : IsImage old) (fits : Fits old) (silent_is
       alike table lt = record {
         last = last_same;
         used = let high = high_same table lt in let bound = undecided_same table in omega (arith, high, bound);
+        created_room = λ room. let high = high_same table lt in let bound = undecided_same table in omega (arith, high, bound, room);
+        ended_room = λ room. let high = high_same table lt in let bound = undecided_same table in omega (arith, high, bound, room);
         next =
             let next = open_same table in
             let rows = fits.rows table lt in

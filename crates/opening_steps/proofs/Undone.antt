@@ -345,7 +345,8 @@ module _ (old new : List ℕ) (object : ℕ) (image : IsImage old) (number : obj
     alike : RowsAlike old new table
     alike = record {
       last = last_same;
-      used = used_same table lt;
+      created_room = λ room. let used = used_same table lt in omega (arith, room, used);
+      ended_room = λ room. let used = used_same table lt in omega (arith, room, used);
       next =
           let next = next_same table lt in
           let used = used_same table lt in
