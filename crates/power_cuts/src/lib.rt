@@ -13,17 +13,20 @@
 //!
 //! Cuts, each after every action and then opened:
 //! - `tests`: those of a transaction of the engine, and those of the openings behind them;
+//! - `heap_cuts`: those of an allocation and of a freeing;
 //! - `structures`: those of the first extension of an object and of the creation of a table;
 //! - `object_cuts`: those of the extension of an object with a segment and 63 entries, which `objects` makes;
 //! - `versions`: those of the opening of an image of version 1 with two tables.
 //!
-//! `opening` has the steps of opening that the last three play.
+//! `opening` has the steps of opening that the last four play.
 #![tactic(auto)]
 
 mod witness;
 
 pub use witness::Witness;
 
+#[cfg(test)]
+mod heap_cuts;
 #[cfg(test)]
 mod object_cuts;
 #[cfg(test)]
