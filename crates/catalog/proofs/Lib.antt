@@ -13,5 +13,6 @@ pub mod Planning
 pub mod Published
 pub mod ReadBack
 pub mod Rebuilding
+pub mod Records
 pub mod ShownTables
 pub mod Surviving

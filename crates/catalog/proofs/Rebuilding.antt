@@ -17,9 +17,9 @@ use Rattle.pm_model.specs.Device.{AreWords}
 use Rattle.image_layout.specs.Fixed.{table_slot_at}
 use Rattle.image_layout.specs.Places.{below, packed_byte}
 use Rattle.image_layout.specs.Records.{column_name_at, table_name_at}
-use Rattle.image_layout.specs.Tables.{NamesExtension, table_count, table_block, table_blocks, columns_of, column_count, column_record, extension_count, extension_pointer_at, is_first_version}
-use Rattle.image_layout.specs.Checks.{Check, check}
-use Rattle.image_layout.specs.EntryRules.{is_letter, is_name_byte, is_padded_name_byte, column_name_checks, kind_check, name_checks, name_rule, since_checks}
+use Rattle.image_layout.specs.Tables.{HasRecords, NamesExtension, table_count, table_block, table_blocks, columns_of, column_count, column_record, extension_count, extension_pointer_at, is_first_version}
+use Rattle.image_layout.specs.Checks.{Check, Keeps, check}
+use Rattle.image_layout.specs.EntryRules.{is_letter, is_name_byte, is_padded_name_byte, column_name_checks, kind_check, name_checks, name_rule, since_checks, table_count_rule, table_slot_rule}
 use Rattle.image_layout.specs.SoundRules.{IsIntact, same_name, name_place_checks, table_name_checks, distinct_name_rule}
 use Rattle.image_layout.proofs.Heap.{Holds}
 use Rattle.image_layout.proofs.Members.{below-Contains, Contains-below, Contains-here, Contains-map, Contains-there, Contains-cons, Contains-nil, map-Contains}
@@ -242,6 +242,27 @@ of_table words before (one ∷ blocks) holds block is =
     (λ there. of_table words (table_name_at one ∷ before) blocks (all_from Holds later (λ c in_later. All-contains Holds (own ++ later) c rest (Contains-append_right own later c in_later))) block there)
     (Contains-cons one block blocks is)
 
+-- ── the records of a published table ──
+
+module _ (words : List ℕ) (whole : length words % 32768 ≡ 0) (count : Keeps words table_count_rule) (slots : Keeps words table_slot_rule) (table : ℕ) (lt : table < table_count words) where
+  named_extension : (extension : ℕ) → extension < extension_count words (table_block words table) → NamesExtension words (table_block words table) extension
+  named_extension extension here = ⊎_elim
+      (λ first. absurd (let none = first_inner words (table_block words table) first in omega (arith, here, none)))
+      (λ second.
+      let points = one_extension words count slots table extension lt second here in
+      record { pointer = points.pointer; within = extension_in_image words (get_or words (extension_pointer_at words (table_block words table) extension) 0) whole points })
+      (cases_Bool (is_first_version words))
+
+  pub table_records : HasRecords words (table_block words table)
+  table_records =
+      let points = one_table words table count slots lt in
+      record {
+        most = points.most;
+        inner = points.inner;
+        within = table_in_image words (get_or words (table_slot_at table) 0) whole points;
+        extensions = named_extension;
+      }
+
 -- ── each table ──
 
 module _ (words : List ℕ) (fit : AreWords words) (whole : length words % 32768 ≡ 0) (keeps : KeepsTableRules words) (table : ℕ) (lt : table < table_count words) where
@@ -280,14 +301,6 @@ module _ (words : List ℕ) (fit : AreWords words) (whole : length words % 32768
       let (number, among, here) = Contains-map (column_record words block) (below (column_count words block)) column is in
       subst (λ (c : ℕ). IsPadded words (column_name_at c)) here (numbered_padded number (Contains-below (column_count words block) number among))
 
-  named_extension : (extension : ℕ) → extension < extension_count words block → NamesExtension words block extension
-  named_extension extension here = ⊎_elim
-      (λ first. absurd (let none = first_inner words block first in omega (arith, here, none)))
-      (λ second.
-      let points = one_extension words keeps.table_count keeps.table_slots table extension lt second here in
-      record { pointer = points.pointer; within = extension_in_image words (get_or words (extension_pointer_at words block extension) 0) whole points })
-      (cases_Bool (is_first_version words))
-
   distinct : All Holds (name_place_checks words [] (map column_name_at (columns_of words block)))
   unfolding distinct_name_rule
   distinct = of_table words [] (table_blocks words) keeps.distinct_names.checks (table_block words table) is_block
@@ -302,12 +315,7 @@ module _ (words : List ℕ) (fit : AreWords words) (whole : length words % 32768
       let inner = points.inner in
       record {
         pointer = points.pointer;
-        records = record {
-          most = points.most;
-          inner = points.inner;
-          within = table_in_image words (get_or words (table_slot_at table) 0) whole points;
-          extensions = named_extension;
-        };
+        records = table_records words whole keeps.table_count keeps.table_slots table lt;
         name = name_is_name words (table_name_at (table_block words table)) table_padded;
         column_names = λ column within. name_is_name words (column_name_at (column_record words (table_block words table) column)) (numbered_padded column within);
         shape = and_from (ltb 0 (length (map (column_of words) columns))) (names_differ (map (column_of words) columns)) (lt-ltb 0 (length (map (column_of words) columns)) (omega (arith, some, inner, size)))

@@ -46,13 +46,18 @@ published_table words table =
 abbrev pub published_tables : List ℕ → List CatalogTable
 published_tables words = map (published_table words) (below (table_count words))
 
+-- each column of the table with this block has a name
+abbrev pub HasColumnNames : List ℕ → ℕ → Type 0
+HasColumnNames words block =
+    (column : ℕ) → column < column_count words block
+    → IsTrue (is_name (name_at words (column_name_at (column_record words block column))))
+
 -- A published table's pointer names a block of the image, which shows a name and columns as a table has them.
 pub record ShowsTable (words : List ℕ) (table : ℕ) : Type 0 where
   pub pointer : IsTrue (is_pointer words (slice_index words (table_slot_at table)))
   pub records : HasRecords words (table_block words table)
   pub name : IsTrue (is_name (name_at words (table_name_at (table_block words table))))
-  pub column_names : (column : ℕ) → column < column_count words (table_block words table)
-      → IsTrue (is_name (name_at words (column_name_at (column_record words (table_block words table) column))))
+  pub column_names : HasColumnNames words (table_block words table)
   pub shape : IsTrue (is_shape (map (column_of words) (columns_of words (table_block words table))))
 
 -- The rules by which the tables are read back: 4, 9, 12 and 30. Every sound image keeps them.

@@ -10,6 +10,8 @@
 //! 1. it has exactly the published tables, in the order of their slots (`published_tables`);
 //! 2. no two have one name.
 //!
+//! The record of each column of a published table lies in the image (`records_law`).
+//!
 //! Calls in the order of use: `rebuild`, which takes the room for every table; `table`, `shape`, `block`,
 //! `column_place` to look one up; `plan_create`, and `published` once its plan was played. After an error the heap and
 //! the catalog are as they were.
@@ -26,7 +28,7 @@ mod tables;
 mod words;
 
 pub use error::CreateError;
-pub use laws::creation_law;
+pub use laws::{creation_law, records_law};
 pub use pm_model::NoMemory;
 pub use reading::{column_place, rebuild};
 pub use tables::Catalog;

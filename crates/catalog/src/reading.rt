@@ -6,7 +6,7 @@ ghost use Rattle.image_layout.specs.Places.{below, packed_byte};
 ghost use Rattle.image_layout.specs.Records.{column_name_at};
 ghost use Rattle.image_layout.specs.Tables.{HasRecords, columns_of, column_count as count_of_columns, column_record, extension_count, extension_of, extension_pointer_at, inner_columns as columns_in_block};
 ghost use Rattle.shown_state.specs.LogicalState.{column_of, name_at};
-ghost use Rattle.catalog.specs.Entries.{KeepsTableRules, ShowsTable, published_table, published_tables};
+ghost use Rattle.catalog.specs.Entries.{HasColumnNames, KeepsTableRules, ShowsTable, published_table, published_tables};
 
 use crate::tables::{Catalog, Table};
 use arrayvec::ArrayVec;
@@ -55,9 +55,7 @@ fn read_table<M: Memory>(mem: &M, table: u8) -> Table
 // The columns of a table.
 fn read_shape<M: Memory>(mem: &M, block: Place) -> Shape
     requires records { HasRecords (M.device mem.now).cached block.0 }
-    requires names { (number : ℕ) → number < count_of_columns (M.device mem.now).cached block.0 →
-        IsTrue (is_name (name_at (M.device mem.now).cached
-        (column_name_at (column_record (M.device mem.now).cached block.0 number)))) }
+    requires names { HasColumnNames (M.device mem.now).cached block.0 }
     requires shape { IsTrue (is_shape
         (map (column_of (M.device mem.now).cached) (columns_of (M.device mem.now).cached block.0))) }
     ensures { result ≡ map (column_of (M.device mem.now).cached) (columns_of (M.device mem.now).cached block.0) }
