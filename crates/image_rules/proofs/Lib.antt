@@ -9,6 +9,7 @@ pub mod EachColumn
 pub mod EntryChecks
 pub mod Faults
 pub mod Firsts
+pub mod Gathered
 pub mod HeapChecks
 pub mod Kept
 pub mod LaneChecks
@@ -21,6 +22,7 @@ pub mod ObjectChecks
 pub mod OwnedChecks
 pub mod OwnerChecks
 pub mod OwnerWalk
+pub mod PairChecks
 pub mod RestChecks
 pub mod SoundFault
 pub mod SplitChecks

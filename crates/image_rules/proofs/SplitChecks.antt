@@ -1,6 +1,6 @@
 -- The checks of the logs of splits, table by table and column by column.
 use Rattle.std.proofs.Common.{◌≡◌, ◌≢◌, ℕ, ◌<◌, true, not, eqb, List, [], ◌∷◌, ◌++◌, map, get_or, sym, ◌∙◌, ap}
-use Rattle.std.specs.Prelude.{Option, Some}
+use Rattle.std.specs.Prelude.{Option, None, Some}
 use Rattle.std.specs.Option.{is_some}
 use Rattle.std.specs.Bool.{then_some}
 use Rattle.std.specs.List.{flat_map}
@@ -14,7 +14,7 @@ use Rattle.image_layout.specs.SoundRules.{zero_check, split_log_rule}
 use Rattle.image_layout.proofs.Faults.{passes, fails, pass-all}
 use Rattle.image_rules.specs.Parts.{log_checks, next_slot_rule}
 use Rattle.image_rules.proofs.EachColumn.{TablesBelow, all-is, of_tables, table_found, tables_none}
-use Rattle.image_rules.proofs.Firsts.{lone, first_of, map-flat_map}
+use Rattle.image_rules.proofs.Firsts.{lone, first_of, map-flat_map, none-append}
 
 module _ (words : List ℕ) where
   -- ── a column ──
@@ -52,3 +52,7 @@ module _ (words : List ℕ) where
   pub slot_next : (found : Option ℕ) → TablesBelow words (log_checks words) (table_count words) → found ≡ first_failing (next_slot_rule words) → found ≡ first_failing (split_log_rule words)
   slot_next found each here =
       here ∙ sym (ap first_failing rule-is ∙ pass-all (of_tables words (log_checks words)) (next_slot_rule words) (tables_none words (log_checks words) each))
+
+  -- where the rule is kept, no log of a column is broken
+  pub logs_kept : first_failing (split_log_rule words) ≡ None → first_failing (flat_map (log_checks words) (all_columns words)) ≡ None
+  logs_kept none = ap first_failing (all-is words (log_checks words)) ∙ (none-append (of_tables words (log_checks words)) (next_slot_rule words) (sym (ap first_failing rule-is) ∙ none)).0

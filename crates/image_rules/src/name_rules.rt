@@ -14,7 +14,7 @@ use pm_model::{NAME_WORDS, Place, column_kind, column_name, table_name};
 // The kinds of columns.
 const INTEGERS: u64 = 1;
 
-const TEXTS: u64 = 2;
+pub(crate) const TEXTS: u64 = 2;
 
 // The bytes of a word.
 const WORD_BYTES: u32 = 8;
@@ -128,7 +128,7 @@ fn is_padded_name_byte(words: &[u64], name: Place, byte: u32) -> bool
 }
 
 // A byte of a text or name that is packed from a place on.
-fn packed_byte(words: &[u64], place: Place, byte: u32) -> u8
+pub(crate) fn packed_byte(words: &[u64], place: Place, byte: u32) -> u8
     requires most { length words.now ≤ 4194304 }
     requires within { place.0 + byte / 8 < length words.now }
     ensures { result ≡ byte_at words.now place.0 byte }

@@ -6,6 +6,7 @@ use Rattle.image_rules.specs.NumberedRules.{entry_rules}
 use Rattle.img_check.specs.declared.error.CheckError.{CheckError}
 use Rattle.img_check.specs.declared.error.CheckError.TheVariants.{Unsound, NoMemory as OutOfMemory}
 use Rattle.image_rules.specs.BuiltOwners.{built_owner_rule, built_single_owner_rule, built_owned_rule}
+use Rattle.image_rules.specs.BuiltTrees.{built_code_rule, built_fingerprint_rule, built_order_rule}
 
 -- nothing is half done
 abbrev pub closing_rules : List Numbered
@@ -19,6 +20,11 @@ rules_without_memory = entry_rules ++ closing_rules
 abbrev pub owner_rules : List Numbered
 owner_rules = numbered 19 built_owner_rule ∷ numbered 20 built_single_owner_rule ∷ numbered 21 built_owned_rule ∷ []
 
+-- the pairs in the leaves of trees: the order of their keys, their fingerprints and their codes
+abbrev pub pair_rules : List Numbered
+pair_rules =
+    numbered 22 built_order_rule ∷ numbered 23 built_fingerprint_rule ∷ numbered 24 built_code_rule ∷ []
+
 -- stamps, pages that were given back, names, and the version
 abbrev pub content_rules : List Numbered
 content_rules =
@@ -26,7 +32,7 @@ content_rules =
     ∷ numbered 31 latest_version_rule ∷ []
 
 abbrev pub sound_rules : List Numbered
-sound_rules = rules_without_memory ++ owner_rules ++ content_rules
+sound_rules = rules_without_memory ++ owner_rules ++ pair_rules ++ content_rules
 
 -- why the words are refused: this is the first rule that they break, and the first place where they do; or memory ran
 -- out, and they keep the rules that are tried without it

@@ -1,27 +1,31 @@
 // The rules of an image at rest, one after the other.
 ghost use Rattle.std.specs.Prelude.{◌≡◌, ◌⊎◌, ℕ, ◌%◌, ◌≤◌, None, Some, IfOk, IfErr, OnErr, length};
 ghost use Rattle.image_layout.specs.Checks.{Keeps, first_fault};
-ghost use Rattle.image_layout.specs.EntryRules.{table_count_rule, table_slot_rule, arrays_rule, objects_rule};
+ghost use Rattle.image_layout.specs.EntryRules.{table_count_rule, table_slot_rule, arrays_rule, objects_rule, tree_rule};
+ghost use Rattle.image_layout.specs.SoundRules.{split_log_rule};
 ghost use Rattle.image_rules.specs.NumberedRules.{told};
 ghost use Rattle.img_check.specs.declared.error.CheckError.TheVariants.{Unsound, NoMemory as OutOfMemory};
-ghost use Rattle.img_check.specs.StandingRules.{IsCauseOf, closing_rules, content_rules, owner_rules, rules_without_memory, sound_rules};
+ghost use Rattle.img_check.specs.StandingRules.{IsCauseOf, closing_rules, content_rules, owner_rules, pair_rules, rules_without_memory, sound_rules};
 
 use crate::error::CheckError;
 use image_rules::{
-    RuleFault, closed_fault, distinct_name_fault, entry_fault, given_back_fault, idle_fault,
-    latest_version_fault, owned_fault, owner_fault, single_owner_fault, split_log_fault,
-    stamp_fault,
+    RuleFault, closed_fault, code_fault, distinct_name_fault, entry_fault, fingerprint_fault,
+    given_back_fault, idle_fault, latest_version_fault, order_fault, owned_fault, owner_fault,
+    single_owner_fault, split_log_fault, stamp_fault,
 };
 use pm_model::NoMemory;
 use std::alloc::Global;
 
 /// Tries the rules of an image at rest, in the order of their numbers: those of every image that a power cut can leave
-/// (1 to 12, 14 and 15), and then that nothing is half done (16 to 18), that live blocks and the owner words of
-/// tables, arrays, leaves and transaction objects go together one to one (19 to 21), that stamps are those of commits
-/// and stand below their table's bound, above which no column begins (27), that pages which were given back are 0 (29),
-/// that names differ (30) and that the version is 2 (31). An error names the first rule that the words break, and the
-/// place where they do. It makes a few passes over the words, and n log n steps for n owner words, for which it takes
-/// memory: where that is refused, the words keep those of them before 19: 1 to 12 and 14 to 18.
+/// (1 to 12, 14 and 15), and then that nothing is half done (16 to 18), that live blocks and the owner words of tables,
+/// arrays, leaves and transaction objects go together one to one (19 to 21), that the keys of columns of integers stand
+/// in order along the leaves of their trees (22) and have their fingerprints (23), that the codes of a column differ
+/// and are below their number (24), that stamps are those of commits and stand below their table's bound, above which
+/// no column begins (27), that pages which were given back are 0 (29), that names differ (30) and that the version is 2
+/// (31). An error names the first rule that the words break, and the place where they do.
+///
+/// It makes a few passes over the words, and n log n steps for n owner words and for n codes of a column. For these and
+/// for the leaves of a column it takes memory: where that is refused, the words keep the rules before 19.
 pub fn check(alloc: Global, words: &[u64]) -> Result<(), CheckError>
     requires segments { length words.now % 32768 ≡ 0 }
     requires one_or_more { 32768 ≤ length words.now }
@@ -54,6 +58,10 @@ fn sound_fault(alloc: Global, words: &[u64]) -> Result<Option<RuleFault>, NoMemo
     let owners = owners_fault(alloc, words)?;
     if owners.is_some() {
         return Ok(owners);
+    }
+    let pairs = pairs_fault(alloc, words)?;
+    if pairs.is_some() {
+        return Ok(pairs);
     }
     Ok(content_fault(words))
 }
@@ -110,6 +118,31 @@ fn owners_fault(alloc: Global, words: &[u64]) -> Result<Option<RuleFault>, NoMem
     }
     let owned = owned_fault(alloc, words)?;
     Ok(RuleFault::of(21, owned))
+}
+
+// Of the rules 22 to 24.
+fn pairs_fault(alloc: Global, words: &[u64]) -> Result<Option<RuleFault>, NoMemory>
+    requires segments { length words.now % 32768 ≡ 0 }
+    requires one_or_more { 32768 ≤ length words.now }
+    requires most { length words.now ≤ 4194304 }
+    requires tables { Keeps words.now table_count_rule }
+    requires slots { Keeps words.now table_slot_rule }
+    requires trees { Keeps words.now tree_rule }
+    requires logs { Keeps words.now split_log_rule }
+    ensures { IfOk result (λ found. told found ≡ first_fault pair_rules words.now) }
+{
+    let unordered = order_fault(alloc, words)?;
+    let first = RuleFault::of(22, unordered);
+    if first.is_some() {
+        return Ok(first);
+    }
+    let unprinted = fingerprint_fault(alloc, words)?;
+    let second = RuleFault::of(23, unprinted);
+    if second.is_some() {
+        return Ok(second);
+    }
+    let uncoded = code_fault(alloc, words)?;
+    Ok(RuleFault::of(24, uncoded))
 }
 
 // Of the rules 27 and 29 to 31.

@@ -1,6 +1,6 @@
 // The soundness check, on images in which words were changed.
 use crate::ground::{
-    BLOCK, Change, EXTENSION, EXTENSIONS, FIRST_VERSION, LAST_PAGE, LEAF, PAGE_5, PAGE_9, SLOT,
+    BLOCK, Change, EXTENSION, EXTENSIONS, FIRST_VERSION, LAST_PAGE, LEAF, NEXT_LEAF, PAGE_5, PAGE_9, SLOT,
     TABLE, TWO_COMMITS, VALUE, image,
 };
 use img_check::{CheckError, check};
@@ -218,10 +218,107 @@ fn columns_in_extensions_are_tried(rt: HostRuntime) -> Result<(), Fail> {
     Ok(())
 }
 
+// A second leaf behind that of the value 7, with the value 8 and the code 1.
+const NEXT_VALUE: [Change; 6] = [
+    (2048, 7),
+    (2185, NEXT_LEAF),
+    (2312, 1),
+    (2314, 136),
+    (2320, (1 << 63) + 8),
+    (2321, 1),
+];
+
+#[test]
+fn pairs_in_leaves_are_tried(rt: HostRuntime) -> Result<(), Fail> {
+    let zero = 1 << 63;
+    let cases: [(&[Change], Told); 32] = [
+        (&[], None),
+        // The leaves are blocks with one owner, and no split is logged.
+        (&[(2048, 5)], Some((19, 2100))),
+        (&[(2048, 3)], Some((19, 2185))),
+        (&[(2048, 7), (2185, 0)], Some((21, 2312))),
+        (&[(2101, LEAF), (2102, NEXT_LEAF)], Some((17, 2101))),
+        (&[(2048, 15), (2320, zero + 6)], Some((21, 2440))),
+        // A key is above each of the leaves before, and there is none like it in its own.
+        (&[(2320, zero + 7)], Some((22, 2320))),
+        (&[(2320, zero + 6)], Some((22, 2320))),
+        (&[(2320, 0)], Some((22, 2320))),
+        (&[(2192, 0), (2186, 0)], None),
+        (&[(2312, 3), (2322, zero + 7)], Some((22, 2322))),
+        (&[(2312, 3), (2322, zero + 8)], Some((22, 2322))),
+        (
+            &[(2312, 3), (2322, zero + 9), (2314, 35208), (2323, 2)],
+            None,
+        ),
+        // The keys of one leaf stand in any order.
+        (
+            &[(2184, 3), (2194, zero + 5), (2186, 34183), (2195, 2)],
+            None,
+        ),
+        (
+            &[(2184, 3), (2194, zero + 9), (2186, 35207), (2195, 2)],
+            Some((22, 2320)),
+        ),
+        (&[(2184, 0), (2320, 0), (2314, 0), (2321, 0)], None),
+        // The fingerprints of used slots, eight in a word.
+        (&[(2186, 134)], Some((23, 2186))),
+        (&[(2314, 135)], Some((23, 2314))),
+        (&[(2186, 391), (2315, 5)], None),
+        (
+            &[(2184, 257), (2208, zero + 5), (2209, 2), (2187, 133)],
+            None,
+        ),
+        (
+            &[(2184, 257), (2208, zero + 5), (2209, 2), (2187, 132)],
+            Some((23, 2187)),
+        ),
+        // Codes go up to their number, and none stands twice.
+        (&[(2321, 0)], Some((24, 2321))),
+        (&[(2321, 2)], Some((24, 2321))),
+        (&[(2193, 1)], Some((24, 2321))),
+        (&[(2193, 1), (2321, 0)], None),
+        (&[(2193, 2)], Some((24, 2193))),
+        (&[(2193, u64::MAX)], Some((24, 2193))),
+        // In the order of their numbers.
+        (&[(2320, zero + 6), (2186, 134)], Some((22, 2320))),
+        (&[(2186, 134), (2193, 5)], Some((23, 2186))),
+        (&[(2193, 5), (2057, 513)], Some((24, 2193))),
+        // In a column of texts the codes alone are tried.
+        (&[(2096, 2), (2186, 134), (2320, 0)], None),
+        (&[(2096, 2), (2193, 5)], Some((24, 2193))),
+    ];
+    for (changes, told) in cases {
+        let found = told_of(rt.alloc(), &[&TABLE, &VALUE, &NEXT_VALUE, changes])?;
+        assert_eq!(rt; found, Some(told), "{changes:?}");
+    }
+    Ok(())
+}
+
+// The one value of a table, with a word changed.
+#[test]
+fn the_pair_of_one_value_is_tried(rt: HostRuntime) -> Result<(), Fail> {
+    let cases: [(&[Change], Told); 6] = [
+        (&[], None),
+        (&[(2048, 1)], Some((19, 2100))),
+        (&[(2048, 7)], Some((21, 2312))),
+        (&[(2186, 134)], Some((23, 2186))),
+        (&[(2193, 1)], Some((24, 2193))),
+        (
+            &[(2101, LEAF), (2102, NEXT_LEAF), (2313, LEAF)],
+            Some((17, 2101)),
+        ),
+    ];
+    for (changes, told) in cases {
+        let found = told_of(rt.alloc(), &[&TABLE, &VALUE, changes])?;
+        assert_eq!(rt; found, Some(told), "{changes:?}");
+    }
+    Ok(())
+}
+
 // The image whose state is told is sound, and each of its parts is tried.
 #[test]
 fn the_image_of_two_commits_is_sound(rt: HostRuntime) -> Result<(), Fail> {
-    let cases: [(&[Change], Told); 10] = [
+    let cases: [(&[Change], Told); 13] = [
         (&[], None),
         // No column begins above the bound.
         (&[(4695, 3)], Some((27, 2057))),
@@ -233,6 +330,10 @@ fn the_image_of_two_commits_is_sound(rt: HostRuntime) -> Result<(), Fail> {
         (&[(4628, 0)], Some((21, 2312))),
         (&[(4628, BLOCK + 128)], Some((20, 4628))),
         (&[(4625, 97)], Some((30, 4625))),
+        // The pairs of both columns of integers.
+        (&[(2194, (1 << 63) + 7)], Some((22, 2194))),
+        (&[(2314, 132)], Some((23, 2314))),
+        (&[(2321, 1)], Some((24, 2321))),
         // In version 1 the third column stands in the block, where its array of codes begins with the first leaf.
         (&[(513, 1)], Some((10, 2185))),
     ];
