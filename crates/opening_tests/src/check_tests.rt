@@ -1,7 +1,7 @@
 // The soundness check, on images in which words were changed.
 use crate::ground::{
-    BLOCK, Change, EXTENSION, EXTENSIONS, FIRST_VERSION, LAST_PAGE, LEAF, NEXT_LEAF, PAGE_5, PAGE_9, SLOT,
-    TABLE, TWO_COMMITS, VALUE, image,
+    BLOCK, Change, EXTENSION, EXTENSIONS, FIRST_VERSION, LAST_PAGE, LEAF, NEXT_LEAF, PAGE_5,
+    PAGE_9, SLOT, TABLE, TWO_COMMITS, VALUE, image,
 };
 use img_check::{CheckError, check};
 use pm_model::NoMemory;
@@ -238,7 +238,7 @@ fn pairs_in_leaves_are_tried(rt: HostRuntime) -> Result<(), Fail> {
         (&[(2048, 3)], Some((19, 2185))),
         (&[(2048, 7), (2185, 0)], Some((21, 2312))),
         (&[(2101, LEAF), (2102, NEXT_LEAF)], Some((17, 2101))),
-        (&[(2048, 15), (2320, zero + 6)], Some((21, 2440))),
+        (&[(9, 17), (2320, zero + 6)], Some((21, 4608))),
         // A key is above each of the leaves before, and there is none like it in its own.
         (&[(2320, zero + 7)], Some((22, 2320))),
         (&[(2320, zero + 6)], Some((22, 2320))),
