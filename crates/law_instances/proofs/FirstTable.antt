@@ -1,5 +1,7 @@
 -- The first table of a formatted image.
-use Rattle.std.proofs.Common.{◌≡◌, inl, ℕ, ◌+◌, ◌*◌, ◌<◌, ◌≤◌, List, [], ◌∷◌, ◌++◌, length, map, get_or, refl, sym, ◌∙◌, ap, subst, arith}
+use Rattle.std.proofs.Common.{◌≡◌, inl, ℕ, suc, ◌+◌, ◌*◌, ◌<◌, ◌≤◌, List, [], ◌∷◌, ◌++◌, length, map, get_or, refl, sym, ◌∙◌, ap, subst, arith}
+use Rattle.std.specs.List.{flat_map}
+use Rattle.std.proofs.lemmas.List.{get_or-replicate, get_or_append_left}
 use Rattle.mv_model.specs.State.{State}
 use Rattle.mv_model.specs.declared.reply.Entry.{Entry as Answered}
 use Rattle.mv_model.specs.declared.shape.Column.{Column}
@@ -7,6 +9,8 @@ use Rattle.mv_model.specs.Consistent.{IsConsistent}
 use Rattle.mv_model.specs.History.{IsLegal, state_after}
 use Rattle.mv_model.proofs.Keeping.{empty_is_consistent}
 use Rattle.mv_model.proofs.Runs.{entries_keep}
+use Rattle.image_layout.specs.Arrays.{chunk_pointer_at}
+use Rattle.image_layout.specs.Blocks.{live_blocks}
 use Rattle.image_layout.specs.Fixed.{lane_op_at, table_count_at, table_slot_at}
 use Rattle.image_layout.specs.Fresh.{fresh_words}
 use Rattle.image_layout.specs.Places.{below}
@@ -14,15 +18,24 @@ use Rattle.image_layout.specs.SoundRules.{IsSound}
 use Rattle.image_layout.specs.Tables.{table_count}
 use Rattle.image_layout.proofs.FreshImage.{length-fresh_words}
 use Rattle.image_layout.proofs.SoundApart.{intact_apart}
-use Rattle.heap_palloc.specs.Law.{slot_by, MayTakeNewSlot}
+use Rattle.heap_palloc.specs.Calls.{KeepsHeapRules}
+use Rattle.heap_palloc.specs.Choice.{choice_block}
+use Rattle.heap_palloc.specs.Index.{HeapIndex, IsIndexOf}
+use Rattle.heap_palloc.specs.Law.{slot_by, IsElsewhere, MayTakeNewSlot}
 use Rattle.heap_palloc.proofs.RulesKept.{fresh_rules}
+use Rattle.heap_palloc.proofs.SameHeaps.{rules_same}
+use Rattle.heap_palloc.proofs.Settled.{gained_live}
+use Rattle.seg_array.specs.Calls.{MayPlanGrowth}
+use Rattle.seg_array.proofs.Headers.{no_chunks}
 use Rattle.shown_state.specs.LogicalState.{logical_state}
 use Rattle.shown_state.proofs.FormattedImage.{formatted_is_sound}
 use Rattle.shown_state.proofs.Opening.{formatted_shows_nothing}
 use Rattle.catalog.specs.Changes.{EndsCreation, IsCreationOn}
-use Rattle.catalog.specs.Creation.{created_words}
+use Rattle.catalog.specs.Creation.{column_record, created_words, head_record}
 use Rattle.catalog.specs.Entries.{HasNames, published_table, published_tables, CatalogTable}
-use Rattle.catalog.specs.Shown.{MayCreateOn, IsCreated, new_table, shown_table}
+use Rattle.catalog.specs.Shown.{MayCreateOn, IsCreated, IsUntouched, new_table, shown_table}
+use Rattle.catalog.proofs.Creating.{ends_published, published_same, same_heap, taken_rules}
+use Rattle.catalog.proofs.Filling.{length-head_record, length-table_record}
 use Rattle.catalog.proofs.ChangesHold.{creation_holds, published_after, tables_shown_after}
 use Rattle.law_instances.specs.FirstTable.{first_table}
 use Rattle.law_instances.proofs.FreshWords.{fresh_zero, four_is_free}
@@ -86,6 +99,63 @@ module _ (segments : ℕ) (some : 0 < segments) where
 
     pub created : IsCreated (fresh_words segments) (first_table name columns) (created_words (fresh_words segments) (first_table name columns))
     created = ends.created
+
+    -- ── the first growth of an array ──
+
+    abbrev words : List ℕ
+    words = created_words (fresh_words segments) (first_table name columns)
+
+    created_rules : KeepsHeapRules words
+    created_rules = subst KeepsHeapRules (sym (ends_published (fresh_words segments) may_create.segments may_create.one_or_more may_create.rules (first_table name columns) may_create.may))
+        (rules_same _ _ (same_heap (fresh_words segments) may_create.segments may_create.one_or_more may_create.rules (first_table name columns) may_create.may _
+        (published_same (fresh_words segments) may_create.segments may_create.one_or_more may_create.rules (first_table name columns) may_create.may))
+        (taken_rules (fresh_words segments) may_create.segments may_create.one_or_more may_create.rules (first_table name columns) may_create.may))
+
+    -- the words of a header are 0 in the record of a new table
+    record_zero : (k : ℕ) → k < 13 → get_or (head_record name (length columns)) (8 + k) 0 ≡ 0
+    record_zero k lt =
+        let at : 8 + k ≡ suc (suc (suc (suc (suc (suc (suc (suc k))))))) = omega arith in
+        ap (λ (n : ℕ). get_or (head_record name (length columns)) n 0) at ∙ get_or-replicate 33 (suc k) 0 0 (omega (arith, lt))
+
+    header_zero : (k : ℕ) → k < 13 → get_or words (2064 + k) 0 ≡ 0
+    header_zero k lt =
+        let size = length-table_record name columns in
+        let head = length-head_record name (length columns) in
+        let at : 2064 + k ≡ 2056 + (8 + k) = omega arith in
+        ap (λ (p : ℕ). get_or words p 0) at ∙ created.record_is (8 + k) (omega (arith, lt, size))
+        ∙ get_or_append_left (head_record name (length columns)) (flat_map column_record columns) 0 (8 + k) (omega (arith, lt, head)) ∙ record_zero k lt
+
+    pub grows : (index : HeapIndex) → IsIndexOf words index → MayPlanGrowth words index 2 2064
+    grows index index_of = record {
+      rules = created_rules;
+      index_of = index_of;
+      rule = no_chunks words 2064 header_zero;
+      lane_is = omega arith;
+      idle = created.keeps.each (lane_op_at 2) untouched ∙ fresh_zero segments some (lane_op_at 2) (omega arith) (omega arith);
+      header_is = record {
+        block = choice_block (first_table name columns).choice;
+        live = gained_live (live_blocks (fresh_words segments)) (live_blocks words) (choice_block (first_table name columns).choice) ends.gains;
+        begins = omega arith;
+        ends = omega arith;
+      };
+      owned = λ lt owns. absurd (owns (ap (λ (n : ℕ). get_or words (chunk_pointer_at 2064 n) 0) (header_zero 0 (omega arith)) ∙ header_zero 1 (omega arith)));
+    }
+      where
+        elsewhere : (lane : ℕ) → lane < 2 → IsElsewhere lane (table_slot_at (table_count (fresh_words segments))) 4 1 (lane_op_at 2)
+        elsewhere lane lt = record {
+          outside_lane = (omega (arith, lt), omega (arith, lt), omega (arith, lt));
+          no_owner = omega (arith, no_table);
+          no_descriptor = λ k from to. omega (arith, from, to);
+          no_bitmap = omega arith;
+        }
+
+        untouched : IsUntouched (fresh_words segments) (first_table name columns) (lane_op_at 2)
+        untouched = record {
+          lane = elsewhere 1 (omega arith);
+          lane_zero = elsewhere 0 (omega arith);
+          no_count = omega arith;
+          no_record = inl (omega arith);
+        }
 
     none_published : published_tables (fresh_words segments) ≡ []
     none_published = ap (λ (n : ℕ). map (published_table (fresh_words segments)) (below n)) no_table

@@ -1,10 +1,10 @@
 -- Images that are written out keep the rules: that of two commits and two later columns is sound, and that of version 1
 -- is intact.
-use Rattle.std.proofs.Common.{◌≡◌, ℕ, zero, suc, ◌<◌, [], ◌∷◌, ◌++◌, length, map, refl, subst, sym, arith}
+use Rattle.std.proofs.Common.{◌≡◌, ⊎_elim, ℕ, zero, suc, ◌<◌, List, [], ◌∷◌, ◌++◌, length, map, refl, subst, sym, arith}
 use Rattle.std.specs.Prelude.{Contains, Some, slice_index}
 use Rattle.std.specs.List.{flat_map}
 use Rattle.std.proofs.lemmas.List.Elements.{All-cons, All-nil, Contains-append_right}
-use Rattle.image_layout.specs.EntryRules.{KeepsEntryRules, arrays_rule, entries_rule, extension_checks, last_rule, magic_rule, name_checks, name_rule, object_rule, objects_rule, since_checks, table_count_rule, table_slot_rule, text_key_checks, text_key_rule, tree_checks, tree_rule, version_rule}
+use Rattle.image_layout.specs.EntryRules.{KeepsEntryRules, arrays_rule, entries_rule, extension_checks, last_rule, magic_rule, name_checks, name_rule, object_rule, objects_rule, since_checks, table_count_rule, table_slot_rule, text_columns, text_key_checks, text_key_rule, tree_checks, tree_rule, version_rule}
 use Rattle.image_layout.specs.HeapRules.{bitmap_rule, descriptor_rule, lane_rule, reserved_rule}
 use Rattle.image_layout.specs.SoundRules.{IsIntact, IsSound, fault, closed_rule, code_rule, column_slots, distinct_name_rule, fingerprint_checks, fingerprint_rule, given_back_rule, idle_rule, latest_version_rule, order_rule, owned_rule, owner_rule, row_code_rule, single_owner_rule, spare_slot_rule, split_log_rule, stamp_checks, stamp_rule, text_checks, text_rule}
 use Rattle.image_layout.specs.Arrays.{array_rule, chunk_of}
@@ -13,12 +13,13 @@ use Rattle.image_layout.specs.Objects.{entry_places, pointer_after}
 use Rattle.image_layout.specs.Owners.{column_owners, extension_owners, lane_targets, next_chunk_pointers, next_extension_pointers, owner_words, unfinished_slots}
 use Rattle.image_layout.specs.Tables.{all_columns, array_headers, column_headers, column_record, columns_of, inner_columns, since_of, table_block, table_count}
 use Rattle.image_layout.specs.Places.{below}
-use Rattle.image_layout.specs.Records.{ended_header, new_leaf_at}
-use Rattle.image_layout.proofs.Members.{Contains-here}
+use Rattle.image_layout.specs.Records.{ended_header, first_leaf_at, new_leaf_at}
+use Rattle.image_layout.proofs.Members.{Contains-cons, Contains-here, Contains-nil}
 use Rattle.image_layout.specs.Trees.{key_below, key_fingerprint, leaf_list, leaf_pairs, leaves_from, pairs, text_at}
 use Rattle.image_layout.proofs.Faults.{all_hold}
 use Rattle.image_layout.proofs.SoundApart.{intact_apart}
 use Rattle.image_layout.specs.Fixed.{lane_op_at}
+use Rattle.image_rules.specs.BuiltOwners.{HasNoTexts}
 use Rattle.heap_palloc.specs.Index.{HeapIndex, IsIndexOf}
 use Rattle.seg_array.specs.Calls.{IsTableArray, MayPlanGrowth}
 use Rattle.seg_array.proofs.ChangesHold.{table_may_grow}
@@ -171,6 +172,24 @@ two_commits_have_arrays header one_of = record {
 
 pub two_commits_may_grow : (index : HeapIndex) → IsIndexOf two_commit_image index → MayPlanGrowth two_commit_image index 0 2064
 two_commits_may_grow index index_of = table_may_grow two_commit_image index 0 0 2064 (two_commits_have_arrays 2064 (Contains-here 2064 (ended_header 2056 ∷ flat_map column_headers (columns_of two_commit_image 2056)))) index_of
+
+-- its one column of texts is the last one, which has no leaf
+texts_are : text_columns two_commit_image ≡ 4688 ∷ []
+unfolding two_commit_image inner_columns column_record
+texts_are = refl
+
+no_leaf : slice_index two_commit_image (first_leaf_at 4688) ≡ 0
+unfolding two_commit_image
+no_leaf = refl
+
+pub two_commits_have_no_texts : HasNoTexts two_commit_image
+two_commits_have_no_texts = record {
+  trees = two_commits_keep.trees;
+  none = λ column texts. ⊎_elim
+      (λ (here : 4688 ≡ column). subst (λ (at : ℕ). slice_index two_commit_image (first_leaf_at at) ≡ 0) here no_leaf)
+      (λ other. absurd (Contains-nil column other))
+      (Contains-cons 4688 column [] (subst (λ (columns : List ℕ). Contains columns column) texts_are texts));
+}
 
 -- an image of one segment
 pub first_version_is_image : IsImage first_version_image

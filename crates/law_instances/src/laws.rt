@@ -1,9 +1,9 @@
 // Laws whose premises are met over a formatted image, or over one that is written out, each the contract of a function
 // that does nothing.
-ghost use Rattle.std.specs.Prelude.{◌≡◌, ℕ, ◌<◌, Contains, Some, [], ◌∷◌, List};
+ghost use Rattle.std.specs.Prelude.{◌≡◌, ℕ, ◌<◌, Contains, Some, [], List};
 ghost use Rattle.image_layout.specs.declared.layout.TheConstants.{OBJECTS};
 ghost use Rattle.image_layout.specs.Fresh.{fresh_words};
-ghost use Rattle.image_layout.specs.Owners.{lane_targets};
+ghost use Rattle.image_layout.specs.Owners.{lane_targets, owner_words};
 ghost use Rattle.image_layout.specs.SoundRules.{IsIntact, IsSound, fault};
 ghost use Rattle.image_layout.specs.Tables.{array_headers};
 ghost use Rattle.mv_model.specs.declared.reply.Entry.{Entry as Answered};
@@ -17,15 +17,16 @@ ghost use Rattle.txn_object.specs.Changes.{begun, with_entry, no_transaction};
 ghost use Rattle.txn_object.specs.Changes.{ClearsAll, ClearsCommit, IsBeginBefore, IsEntryBefore, IsSpelt};
 ghost use Rattle.txn_object.specs.Shown.{MayAddEntry, Shows};
 ghost use Rattle.txn_object.specs.Calls.{MayPlanExtension};
+ghost use Rattle.image_rules.specs.BuiltOwners.{HasNoTexts, built_owner_words};
 ghost use Rattle.shown_state.specs.CommitLaws.{two_commit_image};
 ghost use Rattle.shown_state.specs.Fits.{BeginFirst};
 ghost use Rattle.shown_state.specs.LogicalState.{logical_state};
 ghost use Rattle.shown_state.specs.OpeningParts.{IsImage};
 ghost use Rattle.catalog.specs.Changes.{IsCreationOn};
-ghost use Rattle.catalog.specs.Entries.{HasNames, published_tables};
-ghost use Rattle.catalog.specs.Shown.{new_table, shown_table, IsCreated};
+ghost use Rattle.catalog.specs.Entries.{HasNames};
+ghost use Rattle.catalog.specs.Shown.{IsCreated};
 ghost use Rattle.law_instances.specs.FirstVersion.{first_version_image, OneRowIsShown};
-ghost use Rattle.law_instances.specs.FirstTable.{HasRoom, first_table, first_words};
+ghost use Rattle.law_instances.specs.FirstTable.{HasRoom, PublishesFirst, ShowsFirst, first_table, first_words};
 ghost use Rattle.law_instances.specs.OneTransaction.{IsFresh, first_entry, one_retired};
 ghost use Rattle.law_instances.specs.OneTransaction.{begun_words, entered_words, retired_words};
 
@@ -51,18 +52,20 @@ pub fn transaction_law()
 {}
 
 /// The first table of a formatted image, of up to 5 columns: what the law of a creation asks is met. After its last
-/// action it is the one table that the image shows and publishes.
+/// action it is the one table that the image shows and publishes, and the array of its rows' creators may be planned to
+/// grow.
 pub fn creation_law()
     ensures asked { (segments : ℕ) (name : List ℕ) (columns : List Column) → HasRoom segments columns →
         IsCreationOn (fresh_words segments) (first_table name columns) }
     ensures created { (segments : ℕ) (name : List ℕ) (columns : List Column) → HasRoom segments columns →
         IsCreated (fresh_words segments) (first_table name columns) (first_words segments name columns) }
     ensures shown { (segments : ℕ) (name : List ℕ) (columns : List Column) →
-        HasRoom segments columns → HasNames name columns →
-        (logical_state (first_words segments name columns)).tables ≡ shown_table (first_table name columns) ∷ [] }
+        HasRoom segments columns → HasNames name columns → ShowsFirst segments name columns }
     ensures published { (segments : ℕ) (name : List ℕ) (columns : List Column) →
-        HasRoom segments columns → HasNames name columns →
-        published_tables (first_words segments name columns) ≡ new_table (first_table name columns) ∷ [] }
+        HasRoom segments columns → HasNames name columns → PublishesFirst segments name columns }
+    ensures grows { (segments : ℕ) (name : List ℕ) (columns : List Column) (index : HeapIndex) →
+        HasRoom segments columns → IsIndexOf (first_words segments name columns) index →
+        MayPlanGrowth (first_words segments name columns) index 2 2064 }
 {}
 
 /// A formatted image shows a consistent state, and so is each state of a history that is legal from it. So is the state
@@ -79,7 +82,8 @@ pub fn consistency_law()
 /// version 1, which shows a table with a row, breaks none but that of the version, and what version 2 reads beside it
 /// is 0. So what the laws of opening's step to version 2 ask is met. In the first a lane may allocate one more
 /// extension, into the pointer in the last one; and each array of its table, that of its rows' creators among them, may
-/// be planned to grow, and each transaction object to be extended.
+/// be planned to grow, and each transaction object to be extended. Its owner words are those that the soundness check
+/// tries: its trees keep their rule, and its column of texts has no leaf.
 pub fn written_images_law()
     ensures sound { IsSound two_commit_image }
     ensures shown { OneRowIsShown }
@@ -92,4 +96,6 @@ pub fn written_images_law()
         MayPlanGrowth two_commit_image index 0 2064 }
     ensures extends { (index : HeapIndex) (object : ℕ) → object < OBJECTS → IsIndexOf two_commit_image index →
         MayPlanExtension two_commit_image index object }
+    ensures no_texts { HasNoTexts two_commit_image }
+    ensures owners { built_owner_words two_commit_image ≡ owner_words two_commit_image }
 {}
