@@ -5,3 +5,4 @@ mod EntriesApart
 mod EntryChecks
 mod Retire
 mod Storing
+mod TakeBack

@@ -5,7 +5,9 @@ use Rattle.image_layout.specs.Fixed.{state_at}
 use Rattle.image_layout.specs.Places.{below}
 use Rattle.image_layout.specs.Objects.{commit_word, entries, entry_kind, entry_places, entry_row, entry_table, entry_word, last_commit}
 use Rattle.image_layout.specs.Records.{created_header, ended_header, high_at}
-use Rattle.image_layout.specs.Arrays.{capacity}
+use Rattle.pm_model.specs.Needed.{Stores}
+use Rattle.pm_model.specs.Plans.{Part}
+use Rattle.image_layout.specs.Arrays.{capacity, place_of}
 use Rattle.image_layout.specs.EntryRules.{is_entry}
 use Rattle.image_layout.specs.SoundRules.{no_commit}
 use Rattle.image_layout.specs.Tables.{table_block, table_count}
@@ -81,3 +83,26 @@ shown_with words word =
 pub record FitsOrGives (words : List ℕ) (word : ℕ) (image : List ℕ) : Type 0 where
   pub fits : Fits image
   pub shows : (logical_state image ≡ logical_state words) ⊎ (logical_state image ≡ shown_with words word)
+
+-- What an undecided transaction takes back: a row that it created and no commit did is dead, one that it ended and no
+-- commit did isn't ended, and the bound of a table rises, not further than above the rows that it created.
+pub data IsTakenBack (words : List ℕ) (object place value : ℕ) : Type 0 where
+  kills : (table row : ℕ) → table < table_count words
+      → row < capacity words (created_header (table_block words table))
+      → place ≡ place_of words (created_header (table_block words table)) row → value ≡ no_commit
+      → (creator words table row ≡ 0) ⊎ (last_commit words < creator words table row)
+      → Contains (entries words object) (entry_word 1 table row) → IsTakenBack words object place value
+  frees : (table row : ℕ) → table < table_count words
+      → row < capacity words (ended_header (table_block words table))
+      → place ≡ place_of words (ended_header (table_block words table)) row → value ≡ 0
+      → last_commit words < ender words table row → IsTakenBack words object place value
+  raises : (table : ℕ) → table < table_count words → place ≡ high_at (table_block words table)
+      → slice_index words place ≤ value
+      → value ≤ max (slice_index words place) (row_bound (created_rows words object table))
+      → IsTakenBack words object place value
+
+-- a part of such stores, of an undecided transaction
+pub record TakesBack (words : List ℕ) (object : ℕ) (part : Part) : Type 0 where
+  pub its : IsObjectOf words object
+  pub undecided : IsTrue (is_undecided words object)
+  pub stores : Stores (IsTakenBack words object) part

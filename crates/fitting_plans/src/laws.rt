@@ -1,10 +1,10 @@
 // The laws of a transaction's plans.
-ghost use Rattle.std.specs.Prelude.{ℕ, Bool, List};
-ghost use Rattle.pm_model.specs.Plans.{EachCut, unless_empty};
+ghost use Rattle.std.specs.Prelude.{ℕ, [], ◌∷◌, Bool, List};
+ghost use Rattle.pm_model.specs.Plans.{EachCut, Part, unless_empty};
 ghost use Rattle.shown_state.specs.OpeningParts.{FitsStill};
 ghost use Rattle.txn_object.specs.Object.{begin_parts, clear_part, retire_parts};
 ghost use Rattle.whole_view.specs.TransactionParts.{entry_parts};
-ghost use Rattle.fitting_plans.specs.Transactions.{FitsOrGives, MayBegin, MayClear, MayClose, MayEnter};
+ghost use Rattle.fitting_plans.specs.Transactions.{FitsOrGives, MayBegin, MayClear, MayClose, MayEnter, TakesBack};
 
 /// A law for proofs: each cut of a begin keeps what fits together, and shows the same.
 pub fn begin_law()
@@ -17,6 +17,13 @@ pub fn begin_law()
 pub fn entry_law()
     ensures { (words : List ℕ) (object nth word : ℕ) → MayEnter words object nth word
         → EachCut (FitsOrGives words word) (entry_parts words object nth word) words }
+{}
+
+/// A law for proofs: each cut of the part in which an undecided transaction is taken back, the first of an abort, keeps
+/// what fits together, and shows the same. Where all is taken back then, a retire may follow.
+pub fn undo_law()
+    ensures { (words : List ℕ) (object : ℕ) (part : Part) → TakesBack words object part
+        → EachCut (FitsStill words) (part ∷ []) words }
 {}
 
 /// A law for proofs: each cut of a retire, of so many entries and with or without the commit word, keeps what fits

@@ -10,11 +10,11 @@
 //! 1. the image still fits together, so opening mends it;
 //! 2. it shows the same, or from an entry on that a row was given out.
 //!
-//! Calls: `begin_law`, `entry_law`, `retire_law` (a transaction of which nothing needs to be undone is closed, and its
-//! object cleared), `clear_law` (the second half of that by itself). Codes, an abort and a commit have no law of this
-//! form yet.
+//! Calls: `begin_law`, `entry_law`, `undo_law` (the first part of an abort, behind which a retire may follow),
+//! `retire_law` (a transaction of which nothing needs to be undone is closed, and its object cleared), `clear_law` (the
+//! second half of that by itself). Codes and a commit have no law of this form yet.
 #![tactic(auto)]
 
 mod laws;
 
-pub use laws::{begin_law, clear_law, entry_law, retire_law};
+pub use laws::{begin_law, clear_law, entry_law, retire_law, undo_law};
