@@ -24,52 +24,52 @@ module _ (words : List ℕ) (object : ℕ) (part : Part) (takes : TakesBack word
   its = takes.its
 
   stored_word : (place value : ℕ) → IsTakenBack words object place value → IsUndoWord words place
-  stored_word place value (kills table row lt less at is was entry) = a_creator table row lt less at
-  stored_word place value (frees table row lt less at is was) = an_ender table row lt less at
-  stored_word place value (raises table lt at least most) = a_bound table lt at
+  stored_word place value (kills table row k) = a_creator table row k.published k.has_word k.there
+  stored_word place value (frees table row f) = an_ender table row f.published f.has_word f.there
+  stored_word place value (raises table r) = a_bound table r.published r.there
 
   killed_there : (table row value : ℕ) → table < table_count words → row < capacity words (created_header (table_block words table)) → IsTakenBack words object (birth_at words table row) value
       → (value ≡ no_commit) × ((get_or words (birth_at words table row) 0 ≡ 0) ⊎ (last_commit words < get_or words (birth_at words table row) 0)) × Contains (entries words object) (entry_word 1 table row)
-  killed_there table row value lt published (kills other before less known at is was entry) =
+  killed_there table row value lt published (kills other before k) =
       let found = stamps_once words its.fits table 8 (created_header (table_block words table)) row other 8 (created_header (table_block words other)) before
-      (creators words its.fits table lt) (creators words its.fits other less) published known at in (
-        is,
-        subst (λ (place : ℕ). (get_or words place 0 ≡ 0) ⊎ (last_commit words < get_or words place 0)) (sym at) was,
-        subst (λ (r : ℕ). Contains (entries words object) (entry_word 1 table r)) (sym found.row_is) (subst (λ (t : ℕ). Contains (entries words object) (entry_word 1 t before)) (sym found.table_is) entry),
+      (creators words its.fits table lt) (creators words its.fits other k.published) published k.has_word k.there in (
+        k.dead,
+        subst (λ (place : ℕ). (get_or words place 0 ≡ 0) ⊎ (last_commit words < get_or words place 0)) (sym k.there) k.uncommitted,
+        subst (λ (r : ℕ). Contains (entries words object) (entry_word 1 table r)) (sym found.row_is) (subst (λ (t : ℕ). Contains (entries words object) (entry_word 1 t before)) (sym found.table_is) k.entry),
       )
-  killed_there table row value lt published (frees other before less known at is was) =
+  killed_there table row value lt published (frees other before k) =
       let found = stamps_once words its.fits table 8 (created_header (table_block words table)) row other 24 (ended_header (table_block words other)) before
-      (creators words its.fits table lt) (enders words its.fits other less) published known at in
+      (creators words its.fits table lt) (enders words its.fits other k.published) published k.has_word k.there in
       let bases = found.base_is in absurd (omega (arith, bases))
-  killed_there table row value lt published (raises other less at least most) =
-      absurd (stamp_or_bound words its.fits table 8 (created_header (table_block words table)) row other (creators words its.fits table lt) published less at)
+  killed_there table row value lt published (raises other k) =
+      absurd (stamp_or_bound words its.fits table 8 (created_header (table_block words table)) row other (creators words its.fits table lt) published k.published k.there)
 
   freed_there : (table row value : ℕ) → table < table_count words → row < capacity words (ended_header (table_block words table)) → IsTakenBack words object (end_at words table row) value
       → (value ≡ 0) × (last_commit words < get_or words (end_at words table row) 0)
-  freed_there table row value lt published (frees other before less known at is was) = (is, subst (λ (place : ℕ). last_commit words < get_or words place 0) (sym at) was)
-  freed_there table row value lt published (kills other before less known at is was entry) =
+  freed_there table row value lt published (frees other before k) = (k.none, subst (λ (place : ℕ). last_commit words < get_or words place 0) (sym k.there) k.uncommitted)
+  freed_there table row value lt published (kills other before k) =
       let found = stamps_once words its.fits table 24 (ended_header (table_block words table)) row other 8 (created_header (table_block words other)) before
-      (enders words its.fits table lt) (creators words its.fits other less) published known at in
+      (enders words its.fits table lt) (creators words its.fits other k.published) published k.has_word k.there in
       let bases = found.base_is in absurd (omega (arith, bases))
-  freed_there table row value lt published (raises other less at least most) =
-      absurd (stamp_or_bound words its.fits table 24 (ended_header (table_block words table)) row other (enders words its.fits table lt) published less at)
+  freed_there table row value lt published (raises other k) =
+      absurd (stamp_or_bound words its.fits table 24 (ended_header (table_block words table)) row other (enders words its.fits table lt) published k.published k.there)
 
   raised_there : (table value : ℕ) → table < table_count words → IsTakenBack words object (high_at (table_block words table)) value
       → (get_or words (high_at (table_block words table)) 0 ≤ value) × (value ≤ max (get_or words (high_at (table_block words table)) 0) (row_bound (created_rows words object table)))
-  raised_there table value lt (raises other less at least most) =
-      let one = bounds_once words its.fits table other lt less at in
-      (least, subst (λ (t : ℕ). value ≤ max (get_or words (high_at (table_block words table)) 0) (row_bound (created_rows words object t))) (sym one) most)
-  raised_there table value lt (kills other before less known at is was entry) =
-      absurd (stamp_or_bound words its.fits other 8 (created_header (table_block words other)) before table (creators words its.fits other less) known lt (sym at))
-  raised_there table value lt (frees other before less known at is was) =
-      absurd (stamp_or_bound words its.fits other 24 (ended_header (table_block words other)) before table (enders words its.fits other less) known lt (sym at))
+  raised_there table value lt (raises other k) =
+      let one = bounds_once words its.fits table other lt k.published k.there in
+      (k.least, subst (λ (t : ℕ). value ≤ max (get_or words (high_at (table_block words table)) 0) (row_bound (created_rows words object t))) (sym one) k.most)
+  raised_there table value lt (kills other before k) =
+      absurd (stamp_or_bound words its.fits other 8 (created_header (table_block words other)) before table (creators words its.fits other k.published) k.has_word lt (sym k.there))
+  raised_there table value lt (frees other before k) =
+      absurd (stamp_or_bound words its.fits other 24 (ended_header (table_block words other)) before table (enders words its.fits other k.published) k.has_word lt (sym k.there))
 
   stored_behind : (place value : ℕ) → IsTakenBack words object place value → 2048 ≤ place
-  stored_behind place value (kills other before less known at is was entry) =
-      let behind = stamp_behind words its.fits other 8 (created_header (table_block words other)) before (creators words its.fits other less) known in omega (arith, behind, at)
-  stored_behind place value (frees other before less known at is was) =
-      let behind = stamp_behind words its.fits other 24 (ended_header (table_block words other)) before (enders words its.fits other less) known in omega (arith, behind, at)
-  stored_behind place value (raises other less at least most) = let behind = bound_behind words its.fits other less in omega (arith, behind, at)
+  stored_behind place value (kills other before k) =
+      let behind = stamp_behind words its.fits other 8 (created_header (table_block words other)) before (creators words its.fits other k.published) k.has_word in let at = k.there in omega (arith, behind, at)
+  stored_behind place value (frees other before k) =
+      let behind = stamp_behind words its.fits other 24 (ended_header (table_block words other)) before (enders words its.fits other k.published) k.has_word in let at = k.there in omega (arith, behind, at)
+  stored_behind place value (raises other k) = let behind = bound_behind words its.fits other k.published in let at = k.there in omega (arith, behind, at)
 
   module _ (cut : List ℕ) (between : IsBetween words (words_after part words) cut) where
     each : (w : ℕ) → (get_or cut w 0 ≡ get_or words w 0) ⊎ IsTakenBack words object w (get_or cut w 0)

@@ -27,18 +27,40 @@ pub record MayBegin (words : List ℕ) (object : ℕ) : Type 0 where
   pub unset : commit_word words object ≡ 0
   pub none : All (λ at. slice_index words at ≡ 0) (entry_places words object)
 
+-- a table's words for the creators of its rows, and for what ended them: how many, and where one stands
+abbrev pub created_words : List ℕ → ℕ → ℕ
+created_words words table = capacity words (created_header (table_block words table))
+
+abbrev pub ended_words : List ℕ → ℕ → ℕ
+ended_words words table = capacity words (ended_header (table_block words table))
+
+abbrev pub creator_at : List ℕ → ℕ → ℕ → ℕ
+creator_at words table row = place_of words (created_header (table_block words table)) row
+
+abbrev pub ender_at : List ℕ → ℕ → ℕ → ℕ
+ender_at words table row = place_of words (ended_header (table_block words table)) row
+
+-- the object's transaction has the entry that it created a row, or ended one
+abbrev pub HasEntry : List ℕ → ℕ → ℕ → ℕ → ℕ → Type 0
+HasEntry words object kind table row = Contains (entries words object) (entry_word kind table row)
+
+-- a row is dead, or has the stamp of a commit or none
+abbrev pub IsSettled : List ℕ → ℕ → ℕ → Type 0
+IsSettled words table row = (creator words table row ≡ no_commit) ⊎ (creator words table row ≤ last_commit words)
+
+-- no commit created the row
+abbrev pub IsUncommitted : List ℕ → ℕ → ℕ → Type 0
+IsUncommitted words table row = (creator words table row ≡ 0) ⊎ (last_commit words < creator words table row)
+
 -- An undecided transaction of which nothing needs to be undone: the rows that it created are used up, and each has the
 -- stamp of a commit or none, or is dead; and each that it ended has the stamp of a commit or none.
 pub record MayClose (words : List ℕ) (object : ℕ) : Type 0 where
   pub its : IsObjectOf words object
   pub undecided : IsTrue (is_undecided words object)
-  pub created : (table row : ℕ) → table < table_count words
-      → row < capacity words (created_header (table_block words table))
-      → Contains (entries words object) (entry_word 1 table row)
-      → (creator words table row ≡ no_commit) ⊎ (creator words table row ≤ last_commit words)
-  pub ended : (table row : ℕ) → table < table_count words
-      → row < capacity words (ended_header (table_block words table))
-      → Contains (entries words object) (entry_word 2 table row) → ender words table row ≤ last_commit words
+  pub created : (table row : ℕ) → table < table_count words → row < created_words words table
+      → HasEntry words object 1 table row → IsSettled words table row
+  pub ended : (table row : ℕ) → table < table_count words → row < ended_words words table
+      → HasEntry words object 2 table row → ender words table row ≤ last_commit words
   pub used_up : (table : ℕ) → table < table_count words
       → row_bound (created_rows words object table) ≤ slice_index words (high_at (table_block words table))
 
@@ -84,22 +106,36 @@ pub record FitsOrGives (words : List ℕ) (word : ℕ) (image : List ℕ) : Type
   pub fits : Fits image
   pub shows : (logical_state image ≡ logical_state words) ⊎ (logical_state image ≡ shown_with words word)
 
+-- the store that makes a row dead which the transaction created and no commit did
+pub record IsKill (words : List ℕ) (object table row place value : ℕ) : Type 0 where
+  pub published : table < table_count words
+  pub has_word : row < created_words words table
+  pub there : place ≡ creator_at words table row
+  pub dead : value ≡ no_commit
+  pub uncommitted : IsUncommitted words table row
+  pub entry : HasEntry words object 1 table row
+
+-- the store by which a row isn't ended that no commit ended
+pub record IsFreeing (words : List ℕ) (table row place value : ℕ) : Type 0 where
+  pub published : table < table_count words
+  pub has_word : row < ended_words words table
+  pub there : place ≡ ender_at words table row
+  pub none : value ≡ 0
+  pub uncommitted : last_commit words < ender words table row
+
+-- the store that raises the bound of a table, not further than above the rows that the transaction created
+pub record IsRise (words : List ℕ) (object table place value : ℕ) : Type 0 where
+  pub published : table < table_count words
+  pub there : place ≡ high_at (table_block words table)
+  pub least : slice_index words place ≤ value
+  pub most : value ≤ max (slice_index words place) (row_bound (created_rows words object table))
+
 -- What an undecided transaction takes back: a row that it created and no commit did is dead, one that it ended and no
 -- commit did isn't ended, and the bound of a table rises, not further than above the rows that it created.
 pub data IsTakenBack (words : List ℕ) (object place value : ℕ) : Type 0 where
-  kills : (table row : ℕ) → table < table_count words
-      → row < capacity words (created_header (table_block words table))
-      → place ≡ place_of words (created_header (table_block words table)) row → value ≡ no_commit
-      → (creator words table row ≡ 0) ⊎ (last_commit words < creator words table row)
-      → Contains (entries words object) (entry_word 1 table row) → IsTakenBack words object place value
-  frees : (table row : ℕ) → table < table_count words
-      → row < capacity words (ended_header (table_block words table))
-      → place ≡ place_of words (ended_header (table_block words table)) row → value ≡ 0
-      → last_commit words < ender words table row → IsTakenBack words object place value
-  raises : (table : ℕ) → table < table_count words → place ≡ high_at (table_block words table)
-      → slice_index words place ≤ value
-      → value ≤ max (slice_index words place) (row_bound (created_rows words object table))
-      → IsTakenBack words object place value
+  kills : (table row : ℕ) → IsKill words object table row place value → IsTakenBack words object place value
+  frees : (table row : ℕ) → IsFreeing words table row place value → IsTakenBack words object place value
+  raises : (table : ℕ) → IsRise words object table place value → IsTakenBack words object place value
 
 -- a part of such stores, of an undecided transaction
 pub record TakesBack (words : List ℕ) (object : ℕ) (part : Part) : Type 0 where

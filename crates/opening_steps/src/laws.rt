@@ -27,10 +27,10 @@ pub fn lanes_law()
     ensures { LanesKeep }
 {}
 
-/// A law for proofs: so does each cut of the freeing of a block of which no structure was made: that of a table that was
-/// being created, which the table slot at the table count names, and that of a text that was being added, which the
-/// dictionary slot at a column's length names. Lane 0 notes the block; then its slot is null, and its mark is cleared;
-/// and a small page without a block is free. Behind it the slot is null.
+/// A law for proofs: so does each cut of the freeing of a block of which no structure was made: that of a table that
+/// was being created, which the table slot at the table count names, and that of a text that was being added, which
+/// the dictionary slot at a column's length names. Lane 0 notes the block; then its slot is null, and its mark is
+/// cleared; and a small page without a block is free. Behind it the slot is null.
 pub fn slots_law()
     ensures table { SlotKeeps }
     ensures texts { TextsKeep }
