@@ -1,26 +1,33 @@
 -- Images that are written out keep the rules: that of two commits and two later columns is sound, and that of version 1
 -- is intact.
-use Rattle.std.proofs.Common.{◌≡◌, ⊎_elim, ℕ, zero, suc, ◌<◌, List, [], ◌∷◌, ◌++◌, length, map, refl, subst, sym, arith}
+use Rattle.std.proofs.Common.{◌≡◌, ⊎_elim, inl, ℕ, zero, suc, ◌+◌, ◌<◌, ◌≤◌, true, false, List, [], ◌∷◌, ◌++◌, length, map, get_or, refl, ap, subst, sym, ◌∙◌, arith}
 use Rattle.std.specs.Prelude.{Contains, Some, slice_index}
 use Rattle.std.specs.List.{flat_map}
+use Rattle.std.proofs.lemmas.Bool.{true≢false}
 use Rattle.std.proofs.lemmas.List.Elements.{All-cons, All-nil, Contains-append_right}
 use Rattle.image_layout.specs.EntryRules.{KeepsEntryRules, arrays_rule, entries_rule, extension_checks, last_rule, magic_rule, name_checks, name_rule, object_rule, objects_rule, since_checks, table_count_rule, table_slot_rule, text_columns, text_key_checks, text_key_rule, tree_checks, tree_rule, version_rule}
 use Rattle.image_layout.specs.HeapRules.{bitmap_rule, descriptor_rule, lane_rule, reserved_rule}
 use Rattle.image_layout.specs.SoundRules.{IsIntact, IsSound, fault, closed_rule, code_rule, column_slots, distinct_name_rule, fingerprint_checks, fingerprint_rule, given_back_rule, idle_rule, latest_version_rule, order_rule, owned_rule, owner_rule, row_code_rule, single_owner_rule, spare_slot_rule, split_log_rule, stamp_checks, stamp_rule, text_checks, text_rule}
 use Rattle.image_layout.specs.Arrays.{array_rule, chunk_of}
-use Rattle.image_layout.specs.Blocks.{blocks_of_page, is_inside}
+use Rattle.image_layout.specs.Blocks.{blocks_of_page, is_free_page, is_inside}
 use Rattle.image_layout.specs.Objects.{entry_places, pointer_after}
 use Rattle.image_layout.specs.Owners.{column_owners, extension_owners, lane_targets, next_chunk_pointers, next_extension_pointers, owner_words, unfinished_slots}
-use Rattle.image_layout.specs.Tables.{all_columns, array_headers, column_headers, column_record, columns_of, inner_columns, since_of, table_block, table_count}
+use Rattle.image_layout.specs.Tables.{all_columns, array_headers, column_headers, column_record, columns_of, inner_columns, is_first_version, since_of, table_block, table_count}
 use Rattle.image_layout.specs.Places.{below}
 use Rattle.image_layout.specs.Records.{ended_header, first_leaf_at, new_leaf_at}
 use Rattle.image_layout.proofs.Members.{Contains-cons, Contains-here, Contains-nil}
 use Rattle.image_layout.specs.Trees.{key_below, key_fingerprint, leaf_list, leaf_pairs, leaves_from, pairs, text_at}
 use Rattle.image_layout.proofs.Faults.{all_hold}
 use Rattle.image_layout.proofs.SoundApart.{intact_apart}
-use Rattle.image_layout.specs.Fixed.{lane_op_at}
+use Rattle.image_layout.specs.Fixed.{lane_op_at, table_slot_at}
 use Rattle.image_rules.specs.BuiltOwners.{HasNoTexts}
+use Rattle.mv_model.specs.declared.shape.Column.{Column}
 use Rattle.heap_palloc.specs.Index.{HeapIndex, IsIndexOf}
+use Rattle.heap_palloc.specs.Law.{slot_by, MayTakeNewSlot}
+use Rattle.opening_steps.specs.QuietImages.{IsQuiet}
+use Rattle.opening_steps.proofs.Intact.{intact_quiet}
+use Rattle.catalog.specs.Changes.{IsCreationOn}
+use Rattle.law_instances.specs.FirstTable.{second_table}
 use Rattle.seg_array.specs.Calls.{IsTableArray, MayPlanGrowth}
 use Rattle.seg_array.proofs.ChangesHold.{table_may_grow}
 use Rattle.shown_state.specs.CommitLaws.{two_commit_image}
@@ -207,3 +214,84 @@ first_version_is_shown = refl
 pub first_version_is_old : fault first_version_image ≡ Some (record { rule = 31; place = 513 })
 unfolding first_version_image extension_checks table_slot_rule arrays_rule tree_checks tree_rule name_checks since_checks name_rule text_key_checks text_key_rule object_rule objects_rule entries_rule reserved_rule descriptor_rule bitmap_rule lane_rule idle_rule split_log_rule closed_rule owner_rule single_owner_rule owned_rule order_rule fingerprint_checks fingerprint_rule column_slots code_rule text_checks text_rule spare_slot_rule stamp_checks stamp_rule row_code_rule given_back_rule distinct_name_rule latest_version_rule chunk_of array_rule is_inside blocks_of_page entry_places column_owners extension_owners owner_words inner_columns column_record leaves_from leaf_list leaf_pairs text_at key_below pairs key_fingerprint
 first_version_is_old = refl
+
+-- ── another table, and quiet images ──
+
+two_commits_are_image : IsImage two_commit_image
+unfolding two_commit_image
+two_commits_are_image = record { segments = refl; one_or_more = omega (arith, size) }
+  where
+    size : length two_commit_image ≡ 32768
+    size = refl
+
+-- page 12 is free, and the words of lane 1 and of the next table slots are 0
+twelve_is_free : is_free_page two_commit_image 12 ≡ true
+unfolding two_commit_image is_inside
+twelve_is_free = refl
+
+size_is : length two_commit_image ≡ 32768
+unfolding two_commit_image
+size_is = refl
+
+lane_idle : get_or two_commit_image (lane_op_at 1) 0 ≡ 0
+unfolding two_commit_image
+lane_idle = refl
+
+slot_null : get_or two_commit_image (table_slot_at 1) 0 ≡ 0
+unfolding two_commit_image
+slot_null = refl
+
+next_null : get_or two_commit_image (table_slot_at 2) 0 ≡ 0
+unfolding two_commit_image
+next_null = refl
+
+two_commits_take : MayTakeNewSlot two_commit_image (slot_by 1 (table_slot_at 1) 12 5 0)
+two_commits_take = record {
+  idle = record {
+    lane_is = omega arith;
+    op = lane_idle;
+    owner_is = record {
+      in_image = let size = size_is in omega (arith, size);
+      outside_lanes = inl (omega arith);
+      no_descriptor = omega arith;
+      no_bitmap = λ small e. omega (arith, e);
+    };
+  };
+  unowned = slot_null;
+  page_is = record { in_image = let size = size_is in omega (arith, size); behind_header = omega arith; behind_fixed = omega arith };
+  class_is = omega arith;
+  is_free = twelve_is_free;
+  owner_elsewhere = λ e. omega (arith, e);
+  slot_is = omega arith;
+}
+
+pub two_commits_create : (name : List ℕ) (columns : List Column) → length columns ≤ 5 → IsCreationOn two_commit_image (second_table name columns)
+two_commits_create name columns few =
+    let count = count_is in
+    record {
+      may = record {
+        may = record {
+          count = omega (arith, count);
+          through = (refl, sym (ap table_slot_at count));
+          may = two_commits_take;
+          room = omega (arith, few);
+        };
+        rules = record { reserved = two_commits_keep.reserved; descriptors = two_commits_keep.descriptors; bitmaps = two_commits_keep.bitmaps };
+        segments = two_commits_are_image.segments;
+        one_or_more = two_commits_are_image.one_or_more;
+        idle = is_idle;
+        next = λ lt. ap (λ (n : ℕ). get_or two_commit_image (table_slot_at (n + 1)) 0) count ∙ next_null;
+      };
+      rules = two_commits_keep;
+      owners = intact_apart two_commit_image two_commits_are_intact;
+    }
+
+second_version : is_first_version two_commit_image ≡ false
+unfolding two_commit_image
+second_version = refl
+
+pub two_commits_are_quiet : IsQuiet two_commit_image
+two_commits_are_quiet = intact_quiet two_commit_image two_commits_are_image two_commits_are_intact (λ first table lt. absurd (true≢false (sym first ∙ second_version)))
+
+pub first_version_is_quiet : IsQuiet first_version_image
+first_version_is_quiet = intact_quiet first_version_image first_version_is_image first_version_is_intact first_version_begins

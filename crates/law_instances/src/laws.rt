@@ -1,6 +1,6 @@
 // Laws whose premises are met over a formatted image, or over one that is written out, each the contract of a function
 // that does nothing.
-ghost use Rattle.std.specs.Prelude.{◌≡◌, ℕ, ◌<◌, Contains, Some, [], List};
+ghost use Rattle.std.specs.Prelude.{◌≡◌, ℕ, ◌<◌, ◌≤◌, Contains, Some, [], List, length};
 ghost use Rattle.image_layout.specs.declared.layout.TheConstants.{OBJECTS};
 ghost use Rattle.image_layout.specs.Fresh.{fresh_words};
 ghost use Rattle.image_layout.specs.Owners.{lane_targets, owner_words};
@@ -22,11 +22,12 @@ ghost use Rattle.shown_state.specs.CommitLaws.{two_commit_image};
 ghost use Rattle.shown_state.specs.Fits.{BeginFirst};
 ghost use Rattle.shown_state.specs.LogicalState.{logical_state};
 ghost use Rattle.shown_state.specs.OpeningParts.{IsImage};
+ghost use Rattle.opening_steps.specs.QuietImages.{IsQuiet};
 ghost use Rattle.catalog.specs.Changes.{IsCreationOn};
 ghost use Rattle.catalog.specs.Entries.{HasNames};
 ghost use Rattle.catalog.specs.Shown.{IsCreated};
 ghost use Rattle.law_instances.specs.FirstVersion.{first_version_image, OneRowIsShown};
-ghost use Rattle.law_instances.specs.FirstTable.{HasRoom, PublishesFirst, ShowsFirst, first_table, first_words};
+ghost use Rattle.law_instances.specs.FirstTable.{HasRoom, MayGrowFirst, PublishesFirst, ShowsFirst, first_table, first_words, second_table};
 ghost use Rattle.law_instances.specs.OneTransaction.{IsFresh, first_entry, one_retired};
 ghost use Rattle.law_instances.specs.OneTransaction.{begun_words, entered_words, retired_words};
 
@@ -63,9 +64,8 @@ pub fn creation_law()
         HasRoom segments columns → HasNames name columns → ShowsFirst segments name columns }
     ensures published { (segments : ℕ) (name : List ℕ) (columns : List Column) →
         HasRoom segments columns → HasNames name columns → PublishesFirst segments name columns }
-    ensures grows { (segments : ℕ) (name : List ℕ) (columns : List Column) (index : HeapIndex) →
-        HasRoom segments columns → IsIndexOf (first_words segments name columns) index →
-        MayPlanGrowth (first_words segments name columns) index 2 2064 }
+    ensures grows { (segments : ℕ) (name : List ℕ) (columns : List Column) →
+        HasRoom segments columns → MayGrowFirst segments name columns }
 {}
 
 /// A formatted image shows a consistent state, and so is each state of a history that is legal from it. So is the state
@@ -82,8 +82,9 @@ pub fn consistency_law()
 /// version 1, which shows a table with a row, breaks none but that of the version, and what version 2 reads beside it
 /// is 0. So what the laws of opening's step to version 2 ask is met. In the first a lane may allocate one more
 /// extension, into the pointer in the last one; and each array of its table, that of its rows' creators among them, may
-/// be planned to grow, and each transaction object to be extended. Its owner words are those that the soundness check
-/// tries: its trees keep their rule, and its column of texts has no leaf.
+/// be planned to grow, and each transaction object to be extended; and another table may be created. Its owner words are
+/// those that the soundness check tries: its trees keep their rule, and its column of texts has no leaf. Both images are
+/// quiet, as the law of opening them asks.
 pub fn written_images_law()
     ensures sound { IsSound two_commit_image }
     ensures shown { OneRowIsShown }
@@ -96,6 +97,9 @@ pub fn written_images_law()
         MayPlanGrowth two_commit_image index 0 2064 }
     ensures extends { (index : HeapIndex) (object : ℕ) → object < OBJECTS → IsIndexOf two_commit_image index →
         MayPlanExtension two_commit_image index object }
+    ensures creates { (name : List ℕ) (columns : List Column) → length columns ≤ 5 →
+        IsCreationOn two_commit_image (second_table name columns) }
+    ensures quiet { IsQuiet two_commit_image × IsQuiet first_version_image }
     ensures no_texts { HasNoTexts two_commit_image }
     ensures owners { built_owner_words two_commit_image ≡ owner_words two_commit_image }
 {}

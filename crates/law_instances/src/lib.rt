@@ -1,7 +1,7 @@
 //! That laws say something: what those about plans ask is met, one after the other, over a formatted image, and what
 //! those about opening ask over images that are written out.
 //!
-//! Layer: tests and measurements, above `txn_object`, `catalog`, `seg_array`, `image_rules` and `mv_model`, whose laws it uses as a
+//! Layer: tests and measurements, above `txn_object`, `catalog`, `seg_array`, `image_rules`, `opening_steps` and `mv_model`, whose laws it uses as a
 //! caller does. No crate stands on it, and it has no code.
 //!
 //! State: none. `specs/OneTransaction` and `specs/FirstTable` have the words that each plan leaves,
