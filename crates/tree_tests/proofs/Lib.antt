@@ -1,1 +1,2 @@
 pub mod EvenIndex
+pub mod Playing
