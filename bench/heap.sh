@@ -14,7 +14,7 @@ instructions() {
 
 # The same, inside of the function that plays a plan: SEGMENTS ROUNDS WORK
 playing() {
-    valgrind --tool=callgrind --callgrind-out-file=/dev/null --toggle-collect='*steps::play_whole*' out/bench heap "$@" 2>&1 >/dev/null |
+    valgrind --tool=callgrind --callgrind-out-file=/dev/null --toggle-collect='*playing::play_whole*' out/bench heap "$@" 2>&1 >/dev/null |
         sed -n 's/.*Collected : //p'
 }
 

@@ -1,3 +1,2 @@
-mod EvenIndex
 mod Played
 mod Turns

@@ -7,6 +7,7 @@ ghost use Rattle.bench.specs.Uses.{IsOwner, IsInUse, IsAtRest};
 use heap_palloc::{AllocError, Heap, NoMemory, plan_allocate, plan_free};
 use pm_model::{Action, LINE_WORDS, Memory, Place, Plan, lane_block, lane_dest, lane_op, play};
 use std::alloc::Global;
+use test_ground::play_whole;
 
 const LANE: u8 = 0;
 
@@ -49,7 +50,7 @@ fn allocate<M: Memory>(
     ensures { IfOk result (λ _. IsInUse (M.device memory.new) heap.new) }
 {
     match plan_allocate(alloc, memory, heap, LANE, words, owner) {
-        Ok((mut plan, _block)) => Ok(play_whole(memory, &mut plan)),
+        Ok((mut plan, _block)) => Ok(play_whole(memory, SESSION, &mut plan)),
         Err(AllocError::Full { .. }) => Ok(0),
         Err(AllocError::NoMemory) => Err(AllocError::NoMemory),
     }
@@ -67,23 +68,7 @@ fn free<M: Memory>(
     ensures { IfOk result (λ _. IsInUse (M.device memory.new) heap.new) }
 {
     let mut plan = plan_free(alloc, memory, heap, LANE, owner)?;
-    Ok(play_whole(memory, &mut plan))
-}
-
-// Plays a plan, and gives how many actions it had. What it costs is counted apart.
-#[inline(never)]
-fn play_whole<M: Memory>(memory: &mut M, plan: &mut Plan) -> u32
-    requires clean { (w : ℕ) → IsClean (M.device memory.old) w }
-    requires planned { (parts : List Part) × (plan.old.left ≡ plan_of parts)
-        × IsPlan (length (M.device memory.old).cached) parts }
-    ensures words { (parts : List Part) → plan.old.left ≡ plan_of parts
-        → IsPlan (length (M.device memory.old).cached) parts →
-        (M.device memory.new).cached ≡ finished parts (M.device memory.old).cached }
-    ensures clean { (w : ℕ) → IsClean (M.device memory.new) w }
-{
-    let count = plan.len();
-    play(memory, SESSION, plan, count);
-    count
+    Ok(play_whole(memory, SESSION, &mut plan))
 }
 
 // The first word of the first page that isn't reserved, as the bitmap of a small page.

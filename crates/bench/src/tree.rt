@@ -5,7 +5,6 @@
 //! - `pairs`: each round lists the pairs of a full leaf and takes their greater half.
 //! - `leaf`: each round finds the leaf of an integer.
 ghost use Rattle.std.specs.Prelude.{◌≡◌, ◌<◌, ◌≤◌, IfOk};
-ghost use Rattle.fp_inner.specs.TestIndex.{IsEven};
 
 use crate::found::{Failed, Found};
 use fp_inner::{Inner, NoMemory, Probe, Steps};
@@ -15,25 +14,7 @@ use pm_model::{Memory, PPtr, Place, Plain, fresh, mix};
 use std::alloc::Global;
 use std::marker::Brand;
 use std::sync::ledger::{Blank, Ledger};
-
-// The leaves of the integers 0, 24, 48 and so on.
-#[tactic(auto, using(crate::proofs::EvenIndex::even_more))]
-fn even_index<M: Memory>(alloc: Global, mem: &M, count: u32) -> Result<Inner, NoMemory>
-    requires some { 0 < count }
-    requires few { count ≤ 100000 }
-    ensures { IfOk result (λ inner. IsEven count inner) }
-{
-    let mut inner = Inner::build(alloc, mem, Kind::Int, &[(1 << 63, PPtr::of(Place(0)))])?;
-    for number in 1..count {
-        inner.reserve()?;
-        inner.insert(
-            number as usize,
-            (1 << 63) + 24 * u64::from(number),
-            PPtr::of(Place(number)),
-        );
-    }
-    Ok(inner)
-}
+use test_ground::even_index;
 
 fn look<L: Ledger>(alloc: Global, rounds: u64, leaves: u32, blank: Blank) -> Result<u64, NoMemory>
     requires name { blank.name ≡ L.name }

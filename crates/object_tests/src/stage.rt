@@ -53,7 +53,7 @@ fn seen<M: Memory>(alloc: Global, memory: &M, wanted: &[Entry]) -> Result<Seen, 
 }
 
 // Plays that plan, and looks at the object after its begin, its entries and its end.
-fn play_whole<M: Memory>(
+fn play_and_look<M: Memory>(
     alloc: Global,
     memory: &mut M,
     plan: &mut Plan,
@@ -74,7 +74,7 @@ fn played(alloc: Global) -> Result<(Seen, Seen, Seen), NoMemory> {
     let mut plan = whole_transaction(alloc)?;
     let words = vec![in alloc; 0; 32768]?;
     let mut memory = Plain::new(alloc, words)?;
-    let seen = play_whole(alloc, &mut memory, &mut plan);
+    let seen = play_and_look(alloc, &mut memory, &mut plan);
     drop(memory);
     drop(plan);
     seen

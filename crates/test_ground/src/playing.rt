@@ -6,6 +6,8 @@ ghost use Rattle.pm_model.specs.Plans.{Part, IsPlan, finished, plan_of};
 use pm_model::{Memory, Plan, play};
 
 /// Plays all that is left of a plan on a memory of which every word is clean, and gives how many actions that was.
+/// `bench/heap.sh` counts by its name what it costs.
+#[inline(never)]
 pub fn play_whole<M: Memory>(memory: &mut M, session: u8, plan: &mut Plan) -> u32
     requires session { session ≤ 16 }
     requires clean { (w : ℕ) → IsClean (M.device memory.old) w }

@@ -1,2 +1,1 @@
-pub mod EvenIndex
 pub mod Playing

@@ -1,4 +1,4 @@
-use Rattle.bench.proofs.EvenIndex.{even_ascends}
+use Rattle.test_ground.proofs.EvenIndex.{even_ascends}
 use Rattle.bench.proofs.tree.look.Goals as goal
 
 pub leaf_for-at-requires-clause-sorted : goal.leaf_for-at-requires-clause-sorted

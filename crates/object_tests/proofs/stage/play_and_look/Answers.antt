@@ -1,5 +1,5 @@
 use Rattle.stage_object.proofs.Plays.{may_play-rest}
-use Rattle.object_tests.proofs.stage.play_whole.Goals as goal
+use Rattle.object_tests.proofs.stage.play_and_look.Goals as goal
 
 pub play-requires-clause-may_play : goal.play-requires-clause-may_play
 play-requires-clause-may_play g c = c.requires
