@@ -75,7 +75,8 @@ pub(crate) fn read_arguments<'a>(
     options: &'a [&'a str],
     words: &'a [String],
 ) -> Result<Arguments<'a>, WordsError>
-    ensures read { Reads result (parts_of (map (λ name. name.now) options.entry.now) (map string_bytes words.entry.now)) }
+    ensures read { Reads result
+        (parts_of (map (λ name. name.now) options.entry.now) (map string_bytes words.entry.now)) }
     ensures memory { IsErrOf result WordsError.NoMemory → list_all may_stand (map string_bytes words.entry.now) ≡ true }
 {
     if !may_all_stand(words) {

@@ -364,4 +364,5 @@ MayEndOver given job image input =
 
 -- where both sources tell their bytes, this holds of them
 abbrev pub OfBoth : SourceState → SourceState → (List ℕ → List ℕ → Type 0) → Type 0
-OfBoth image input Holds = IfSome image.left (λ image_bytes. IfSome input.left (λ input_bytes. Holds image_bytes input_bytes))
+OfBoth image input Holds =
+    IfSome image.left (λ image_bytes. IfSome input.left (λ input_bytes. Holds image_bytes input_bytes))

@@ -1,5 +1,6 @@
 //! Common ground of tests and measurements, so that each stands once: images that are built word by word, plans that
-//! are played whole, a heap on a formatted image, a transaction object that is begun and extended, and an index of leaves.
+//! are played whole, a heap on a formatted image, a transaction object that is begun and extended, and an index of
+//! leaves.
 //!
 //! Layer: tests and measurements, at its bottom, above `heap_palloc` and `txn_object`, whose plans it plays, and
 //! `fp_inner`. On it stand `heap_tests`, `object_tests`, `tree_tests`, `opening_tests`, `power_cuts` and `bench`.
