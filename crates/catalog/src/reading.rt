@@ -68,8 +68,8 @@ fn read_shape<M: Memory>(mem: &M, block: Place) -> Shape
     Shape::of(columns).unwrap()
 }
 
-/// The record of a table's column, by the place of the table's block and the column's number. It reads as many words as
-/// the table has extensions, at most 15.
+/// The record of a table's column, by the place of the table's block and the column's number. It reads two words, and then
+/// one pointer for each extension up to the column's own: at most 17 words, and 2 for a column of the block.
 pub fn column_place<M: Memory>(mem: &M, block: Place, number: u8) -> Place
     requires records { HasRecords (M.device mem.now).cached block.0 }
     requires number { number < count_of_columns (M.device mem.now).cached block.0 }

@@ -68,7 +68,8 @@ pub fn version_step_law()
 /// The law of opening an image that fits together, where no split is logged; lanes, transactions, and a table or texts
 /// that are half made may be in any state that fits, and the version either one. Opening such an image goes on to its
 /// end, where it is sound and shows the same. A power cut after any of the actions leaves such an image again, which
-/// shows the same: so opening may be cut any number of times. An intact image is such an image.
+/// shows the same: so opening may be cut any number of times. An intact image is such an image, one of version 1 where
+/// what version 2 reads beside it is 0.
 pub fn quiet_opening_law()
     ensures opens { (words : List ℕ) → IsQuiet words → OpensStill words }
     ensures cuts { (words : List ℕ) (k : ℕ) (image : List ℕ) → IsQuiet words → k ≤ length (opening_plan words) →

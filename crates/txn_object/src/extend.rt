@@ -41,7 +41,8 @@ pub fn plan_extend<M: Memory>(
     ensures planned { IfOk result (λ plan.
         IsExtensionPlanned (M.device mem.now).cached heap.old heap.new (own_object session) plan.left) }
 
-    ensures write_set_full { ready_count (M.device mem.now).cached (own_object session) ≡ 32 ↔ (result ≡ Err WriteSetFull) }
+    ensures write_set_full { ready_count (M.device mem.now).cached (own_object session) ≡ 32 ↔
+        (result ≡ Err WriteSetFull) }
     ensures full { (need largest : ℕ) → result ≡ Err (Full need largest) →
         HasNoRoom (M.device mem.now).cached (own_object session) need largest }
     ensures room { IfOk result (λ _.
