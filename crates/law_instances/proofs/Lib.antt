@@ -4,3 +4,4 @@ mod FirstTable
 mod WorkedImages
 mod WrittenState
 mod TwoLanes
+mod HalfSplit

@@ -2,3 +2,4 @@ pub mod OneTransaction
 pub mod FirstTable
 pub mod FirstVersion
 pub mod TwoLanes
+pub mod HalfSplit

@@ -5,16 +5,16 @@
 //! caller does. No crate stands on it, and it has no code.
 //!
 //! State: none. `specs/OneTransaction` and `specs/FirstTable` have the words that each plan leaves,
-//! `specs/FirstVersion` an image of version 1, and `specs/TwoLanes` one whose logs don't fit.
+//! `specs/FirstVersion` an image of version 1, and `specs/TwoLanes` and `specs/HalfSplit` three whose logs don't fit.
 //!
 //! Laws: `transaction_law` (a begin, an entry and a retire, each over the words that the one before it leaves),
 //! `creation_law` (the first table), `consistency_law` (the states of a store's histories), `written_images_law` (sound
 //! and intact images, word by word, and what may grow in them), `logs_law` (an image whose opening ends sound, and a
-//! cut of whose opening doesn't).
+//! cut of whose opening doesn't), `freed_leaf_law` and `loose_leaf_law` (two whose opening changes what is read).
 #![tactic(auto)]
 
 mod laws;
 mod logs;
 
 pub use laws::{consistency_law, creation_law, transaction_law, written_images_law};
-pub use logs::logs_law;
+pub use logs::{freed_leaf_law, logs_law, loose_leaf_law};
