@@ -5,3 +5,5 @@ mod WorkedImages
 mod WrittenState
 mod TwoLanes
 mod HalfSplit
+mod StageTransaction
+mod FirstText

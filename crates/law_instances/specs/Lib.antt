@@ -1,5 +1,7 @@
 pub mod OneTransaction
 pub mod FirstTable
+pub mod FirstText
 pub mod FirstVersion
+pub mod StageTransaction
 pub mod TwoLanes
 pub mod HalfSplit
