@@ -7,3 +7,4 @@ mod TwoLanes
 mod HalfSplit
 mod StageTransaction
 mod FirstText
+mod SplitLogs
