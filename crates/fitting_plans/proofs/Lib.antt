@@ -1,3 +1,4 @@
+mod Allocate
 mod Begin
 mod Clear
 mod Enter

@@ -12,9 +12,10 @@
 //!
 //! Calls: `begin_law`, `entry_law`, `undo_law` (the first part of an abort, behind which a retire may follow),
 //! `retire_law` (a transaction of which nothing needs to be undone is closed, and its object cleared), `clear_law` (the
-//! second half of that by itself). Codes and a commit have no law of this form yet.
+//! second half of that by itself). Codes and a commit have no law of this form yet. Of allocations and freeings
+//! `blocks_show_law` has the second invariant alone.
 #![tactic(auto)]
 
 mod laws;
 
-pub use laws::{begin_law, clear_law, entry_law, retire_law, undo_law};
+pub use laws::{begin_law, blocks_show_law, clear_law, entry_law, retire_law, undo_law};
