@@ -19,8 +19,8 @@ pub fn read<M: Memory>(alloc: Global, mem: &M, at: Place) -> Result<Text, NoMemo
     Text::of(alloc, &bytes)
 }
 
-// The bytes of the text whose block stands at a place.
-fn read_bytes<M: Memory>(alloc: Global, mem: &M, at: Place) -> Result<Vec<u8>, NoMemory>
+/// The bytes of the text whose block stands at a place. The one error is want of memory.
+pub fn read_bytes<M: Memory>(alloc: Global, mem: &M, at: Place) -> Result<Vec<u8>, NoMemory>
     requires { IsPlacedText (M.device mem.now).cached at.0 }
     ensures { IfOk result (λ bytes. bytes.items ≡ text_at (M.device mem.now).cached at.0) }
 {
