@@ -7,6 +7,7 @@ use Rattle.image_layout.specs.Fixed.{magic_at, version_at, last_at, descriptor_a
 use Rattle.image_layout.specs.Fresh.{magic_number}
 use Rattle.image_layout.specs.Places.{below, page_count}
 use Rattle.image_layout.specs.Checks.{Check, check, Rule, Keeps, Numbered, numbered}
+use Rattle.image_layout.specs.SoundRules.{is_commit}
 pub use Rattle.image_view.specs.Views.{dead}
 use Rattle.engine_core.specs.Stage.{high_at, born_at, ended_at}
 
@@ -98,10 +99,6 @@ closed_checks words object =
 -- 18: no transaction is open
 unfoldable pub closed_rule : Rule
 closed_rule words = flat_map (closed_checks words) (below 16)
-
--- the number of a commit
-abbrev pub is_commit : List ℕ → ℕ → Bool
-is_commit words stamp = nat_le 1 stamp && nat_le stamp (slice_index words last_at)
 
 -- a row that is used up has no number, or that of the commit that created it, or it is dead
 abbrev pub is_born : List ℕ → ℕ → Bool
