@@ -266,17 +266,28 @@ Ends given (Some (job.Format segments)) before after =
     EndsFormat given segments before.outputs.image after.outputs.image
 Ends given (Some (job.Script cut keep)) before after = EndsScript given cut keep before after
 
--- The same, told of each stream before the call and after it: of the sources of the image and of the script, and of the
--- sinks of the image and of the text.
-abbrev pub EndedScript : Status → Option ℕ → Keep → (image input : SourceState) → (image_out out : SinkState)
-    → (image_now input_now : SourceState) → (image_out_now out_now : SinkState) → Type 0
-EndedScript given cut keep image input image_out out image_now input_now image_out_now out_now =
-    EndsScript given cut keep (streams image input image_out out) (streams image_now input_now image_out_now out_now)
+-- one stream: before the call, and after it
+pub record Moved (A : Type 0) : Type 0 where
+  pub before : A
+  pub after : A
 
-abbrev pub Ended : Status → Option Job → (image input : SourceState) → (image_out out : SinkState)
-    → (image_now input_now : SourceState) → (image_out_now out_now : SinkState) → Type 0
-Ended given job image input image_out out image_now input_now image_out_now out_now =
-    Ends given job (streams image input image_out out) (streams image_now input_now image_out_now out_now)
+infix 20 ◌⟼◌
+abbrev pub ◌⟼◌ : {A : Type 0} → A → A → Moved A
+before ⟼ after = record { before = before; after = after }
+
+-- The same, told of each stream by itself: of the sources of the image and of the script, and of the sinks of the image
+-- and of the text.
+abbrev pub EndedScript : Status → Option ℕ → Keep
+    → (image input : Moved SourceState) → (image_out out : Moved SinkState) → Type 0
+EndedScript given cut keep image input image_out out =
+    EndsScript given cut keep (streams image.before input.before image_out.before out.before)
+    (streams image.after input.after image_out.after out.after)
+
+abbrev pub Ended : Status → Option Job
+    → (image input : Moved SourceState) → (image_out out : Moved SinkState) → Type 0
+Ended given job image input image_out out =
+    Ends given job (streams image.before input.before image_out.before out.before)
+    (streams image.after input.after image_out.after out.after)
 
 -- this holds where the job reads nothing and prints nothing
 abbrev pub UnlessScript : Option Job → Type 0 → Type 0

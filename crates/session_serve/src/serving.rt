@@ -3,7 +3,7 @@ ghost use Rattle.pm_image.specs.Spelling.{IsImage};
 ghost use Rattle.pm_model.specs.Plain.{device_of};
 ghost use Rattle.pm_model.specs.Plans.{at_rest};
 ghost use Rattle.script_text.specs.Script.{IsBuiltLine};
-ghost use Rattle.session_serve.specs.Runs.{Ended, EndedScript, EndsFormat, FailsToWrite, IsWrittenOut, MayEndOver, OfBoth, ReadsImage, ReadsScript, ReadsToEnd, TakesInput, UnlessScript, UnlessWritten, asked_by, outputs};
+ghost use Rattle.session_serve.specs.Runs.{◌⟼◌, Ended, EndedScript, EndsFormat, FailsToWrite, IsWrittenOut, MayEndOver, OfBoth, ReadsImage, ReadsScript, ReadsToEnd, TakesInput, UnlessScript, UnlessWritten, asked_by, outputs};
 ghost use Rattle.session_serve.specs.Parts.{IsNoImage, IsNoScript, IsUnread, IsWritten, RanWords, Takes};
 
 use crate::leaving::{Left, play};
@@ -121,8 +121,8 @@ fn read_and_play<I: Source, S: Source, J: Sink, O: Sink>(
     out: &mut O,
 ) -> Status
     ensures ends { EndedScript result cut keep
-        (I.state image.old) (S.state input.old) (J.state image_out.old) (O.state out.old)
-        (I.state image.new) (S.state input.new) (J.state image_out.new) (O.state out.new) }
+        (I.state image.old ⟼ I.state image.new) (S.state input.old ⟼ S.state input.new)
+        (J.state image_out.old ⟼ J.state image_out.new) (O.state out.old ⟼ O.state out.new) }
     ensures image_taken { TakesInput result (I.state image.old).left (I.state image.new).left }
     ensures taken { TakesInput result (S.state input.old).left (S.state input.new).left }
     ensures image_unwritten { UnlessWritten result (image_out.new ≡ image_out.old) }
@@ -179,8 +179,8 @@ pub fn run<I: Source, S: Source, J: Sink, O: Sink>(
     // What the call has done, by the status that it ends with: what was read, and to its end; what was written, and
     // flushed once, behind its last byte; and which stream has failed, exactly where a fault is answered.
     ensures ends { Ended result (asked_by words.now)
-        (I.state image.old) (S.state input.old) (J.state image_out.old) (O.state out.old)
-        (I.state image.new) (S.state input.new) (J.state image_out.new) (O.state out.new) }
+        (I.state image.old ⟼ I.state image.new) (S.state input.old ⟼ S.state input.new)
+        (J.state image_out.old ⟼ J.state image_out.new) (O.state out.old ⟼ O.state out.new) }
 
     // The status is that of the words, the image and the input, unless memory ran out or a stream failed.
     ensures status { OfBoth (I.state image.old) (S.state input.old) (MayEndOver result (asked_by words.now)) }
