@@ -127,6 +127,7 @@ pub record IsKept (d : Device) (opened : List ℕ) (history : List Entry) (now :
   pub plans : Plans
   pub base : List ℕ
   pub playing : ArePlaying 17 plans base d
+  -- no other session's plan has words of its own, and what is left of session 1's is what the call has yet to play
   pub others : (session w : ℕ) → session ≢ 1 → (plans session).play.own w ≡ false
   pub plan : HasLeft in_flight now left d (plans 1) base
   -- the history, and what the words stand for
@@ -136,12 +137,16 @@ pub record IsKept (d : Device) (opened : List ℕ) (history : List Entry) (now :
   pub stage : IsStage (standing plans (due (length history) in_flight) base) now.running
   -- every cut, now and after any further actions
   pub safe : HoldsAtEachCut 17 (IsSafe opened history (due (length history) in_flight)) plans base
-  -- entries, events, actions
+  -- exactly the entry of a call in flight isn't answered, and each entry is of session 1
   pub answers : IsAnswered in_flight history
   pub alone : IsOfOne history
+  -- each call that was started has its entry, or is in flight without one
   pub count : length history + pending in_flight ≡ started
+  -- no more transactions were begun than there are entries
   pub begun : now.begun ≤ length history
+  -- a call in flight has events left for what it has to play, and all calls together have had no more than their share
   pub bounded : IsBounded in_flight left events_left
   pub actions : played + events_left ≤ 65536 * started
+  -- what was played and what is left to play are the plans of the entries, one after the other
   pub done : HasPlayed d opened (history ++ due (length history) in_flight) left played
   pub timed : IsTimed (logical_state opened) history in_flight (length left)
