@@ -8,3 +8,4 @@ mod HalfSplit
 mod StageTransaction
 mod FirstText
 mod SplitLogs
+mod HeldPage

@@ -6,3 +6,4 @@ pub mod SplitLogs
 pub mod StageTransaction
 pub mod TwoLanes
 pub mod HalfSplit
+pub mod HeldPage
