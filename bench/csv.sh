@@ -6,19 +6,19 @@ set -euo pipefail
 cd "$(dirname "$0")/.."
 folder=$(mktemp -d)
 trap 'rm -rf "$folder"' EXIT
-(cd crates/bench_csv && rt run) >/dev/null 2>&1
-program=crates/bench_csv/out/bench_csv
+(cd crates/bench && rt run) >/dev/null 2>&1
+program=crates/bench/out/bench
 
 # instructions ROUNDS WORK
 instructions() {
-    valgrind --tool=callgrind --callgrind-out-file=/dev/null "$program" "$folder/csv" "$@" 2>&1 >/dev/null |
+    valgrind --tool=callgrind --callgrind-out-file=/dev/null "$program" csv "$folder/csv" "$@" 2>&1 >/dev/null |
         sed -n 's/.*Collected : //p'
 }
 
 # Microseconds of the processor: ROUNDS WORK
 spent() {
     local TIMEFORMAT='%3U %3S'
-    { time "$program" "$folder/csv" "$@" >/dev/null; } 2>&1 | awk '{ printf "%.0f", ($1 + $2) * 1000000 }'
+    { time "$program" csv "$folder/csv" "$@" >/dev/null; } 2>&1 | awk '{ printf "%.0f", ($1 + $2) * 1000000 }'
 }
 
 # The least of five differences: WORK

@@ -6,19 +6,19 @@ set -euo pipefail
 cd "$(dirname "$0")/.."
 folder=$(mktemp -d)
 trap 'rm -rf "$folder"' EXIT
-(cd crates/bench_texts && rt run) >/dev/null 2>&1
-program=crates/bench_texts/out/bench_texts
+(cd crates/bench && rt run) >/dev/null 2>&1
+program=crates/bench/out/bench
 
 # instructions ROUNDS WORK
 instructions() {
-    valgrind --tool=callgrind --callgrind-out-file=/dev/null "$program" "$folder/file" "$@" 2>&1 >/dev/null |
+    valgrind --tool=callgrind --callgrind-out-file=/dev/null "$program" texts "$folder/file" "$@" 2>&1 >/dev/null |
         sed -n 's/.*Collected : //p'
 }
 
 # Microseconds of the processor: ROUNDS WORK
 spent() {
     local TIMEFORMAT='%3U %3S'
-    { time "$program" "$folder/file" "$@" >/dev/null; } 2>&1 | awk '{ printf "%.0f", ($1 + $2) * 1000000 }'
+    { time "$program" texts "$folder/file" "$@" >/dev/null; } 2>&1 | awk '{ printf "%.0f", ($1 + $2) * 1000000 }'
 }
 
 # The least of five differences: WORK

@@ -1,10 +1,12 @@
 //! Does one piece of work over and over, so that a clock outside can time it.
 //!
 //! Layer: tests and measurements, above the crates that it measures: `img_check`, `engine_core`, `pm_model`,
-//! `heap_palloc`, `pm_image`, `fp_leaf` and `fp_inner`. The scripts of `bench/` call it.
+//! `heap_palloc`, `pm_image`, `fp_leaf`, `fp_inner`, `sf_value`, `script_text` and `csv_load`. The scripts of `bench/`
+//! call it.
 //!
 //! Its first argument says what: `check`, `engine`, `device`, `heap`, `image` or `tree`. The others are the sizes that
-//! the module of this name reads. It prints what it found. With `all` alone it does a little of each.
+//! the module of this name reads. `texts` and `csv` are followed by a file, whose text `texts` and `records` read. It
+//! prints what it found. With `all` alone it does a little of each.
 #![tactic(auto)]
 
 mod check;
@@ -15,12 +17,14 @@ mod found;
 mod heap;
 mod image;
 mod pages;
+mod records;
 mod steps;
+mod texts;
 mod tree;
 
 use crate::found::{Failed, Found};
 use std::alloc::Global;
-use std::{env, io};
+use std::{env, fs, io};
 
 const USAGE: &str = "bench check SEGMENTS ROUNDS
 bench engine SEGMENTS INSERTS
@@ -28,6 +32,8 @@ bench device SEGMENTS ROUNDS
 bench heap SEGMENTS ROUNDS mixed|turns|holes|device|reopen
 bench image SEGMENTS FILLED ROUNDS copy|encode|decode
 bench tree ROUNDS LEAVES mix|matches|prints|pairs|leaf
+bench texts FILE ROUNDS copy|read|lines|values|history
+bench csv FILE ROUNDS same|records|rows
 bench all";
 
 // A measure with its sizes.
@@ -53,7 +59,24 @@ fn read_measure(words: &[String]) -> Option<Measure> {
     }
 }
 
-// What the arguments ask for.
+// A measure of a text.
+#[derive(Clone, Copy)]
+enum TextMeasure {
+    Texts(texts::Job),
+    Csv(records::Job),
+}
+
+// The file of the text, and its measure.
+fn read_text_measure(words: &[String]) -> Option<(&str, TextMeasure)> {
+    let measure = match words.get(1)?.as_str() {
+        "texts" => TextMeasure::Texts(texts::read(words)?),
+        "csv" => TextMeasure::Csv(records::read(words)?),
+        _ => return None,
+    };
+    Some((words.get(2)?.as_str(), measure))
+}
+
+// What arguments without a file ask for.
 #[derive(Clone, Copy)]
 enum Request {
     All,
@@ -84,6 +107,13 @@ fn run(alloc: Global, measure: Measure) -> Result<Found, Failed> {
     }
 }
 
+fn run_on(alloc: Global, text: &str, measure: TextMeasure) -> Result<Found, Failed> {
+    match measure {
+        TextMeasure::Texts(job) => texts::run(alloc, text, job),
+        TextMeasure::Csv(job) => Ok(records::run(alloc, text.as_bytes(), job)),
+    }
+}
+
 fn print_found(rt: &HostRuntime, found: Found) -> io::Result<()> {
     match found {
         Found::Sound { blocks, times } => println!(rt; "{blocks} live blocks, {times} times sound"),
@@ -98,8 +128,8 @@ fn print_found(rt: &HostRuntime, found: Found) -> io::Result<()> {
     }
 }
 
-fn print_measure(rt: &HostRuntime, measure: Measure) -> io::Result<()> {
-    match run(rt.alloc(), measure) {
+fn print_outcome(rt: &HostRuntime, outcome: Result<Found, Failed>) -> io::Result<()> {
+    match outcome {
         Ok(found) => print_found(rt, found),
         Err(error) => println!(rt; "{error}"),
     }
@@ -114,18 +144,33 @@ fn print_all(rt: &HostRuntime) -> io::Result<()> {
         Measure::Image(image::small()),
         Measure::Tree(tree::small()),
     ] {
-        print_measure(rt, measure)?;
+        print_outcome(rt, run(rt.alloc(), measure))?;
+    }
+    for (text, measure) in [
+        ("7\n\"a b\"\n", TextMeasure::Texts(texts::small())),
+        (
+            "0,customer-0,city-0,0,100,20000\n",
+            TextMeasure::Csv(records::small()),
+        ),
+    ] {
+        print_outcome(rt, run_on(rt.alloc(), text, measure))?;
     }
     Ok(())
 }
 
-fn main(rt: HostRuntime) -> io::Result<()> {
-    let words: Vec<String> = env::args(&rt)?.collect(rt.alloc())?;
-    let request = read(words.as_slice());
-    drop(words);
+fn print_request(rt: &HostRuntime, request: Request) -> io::Result<()> {
     match request {
-        Request::All => print_all(&rt),
-        Request::One(measure) => print_measure(&rt, measure),
+        Request::All => print_all(rt),
+        Request::One(measure) => print_outcome(rt, run(rt.alloc(), measure)),
         Request::Help => println!(rt; "{USAGE}"),
     }
+}
+
+fn main(rt: HostRuntime) -> io::Result<()> {
+    let words: Vec<String> = env::args(&rt)?.collect(rt.alloc())?;
+    let Some((path, measure)) = read_text_measure(words.as_slice()) else {
+        return print_request(&rt, read(words.as_slice()));
+    };
+    let text = fs::read_to_string(&rt, path)?;
+    print_outcome(&rt, run_on(rt.alloc(), text.as_str(), measure))
 }

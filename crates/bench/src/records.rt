@@ -1,21 +1,56 @@
+//! Reads the records of a text of CSV, as `bench/make_csv` prints it.
+//! - `same`: each round reads the records by the csv crate, each into the same memory.
+//! - `records`: each round reads the records by the csv crate, each into memory of its own.
+//! - `rows`: each round types the records.
+use crate::found::Found;
 use arrayvec::ArrayVec;
 use csv::{ByteRecord, ReaderBuilder};
 use csv_load::typed_rows;
 use mv_model::{Column, Kind, Name, Shape};
 use std::alloc::Global;
 
-/// What a round does with a text.
+// What each round does.
 #[derive(Clone, Copy)]
-pub(crate) enum Work {
-    /// The csv crate reads its records, each into the same memory.
+enum Work {
     Same,
-    /// The csv crate reads its records, each into memory of its own.
     Records,
-    /// Its records are typed.
     Rows,
 }
 
-/// The columns of the sales that `bench/make_csv` prints.
+fn read_work(word: &str) -> Option<Work> {
+    match word {
+        "same" => Some(Work::Same),
+        "records" => Some(Work::Records),
+        "rows" => Some(Work::Rows),
+        _ => None,
+    }
+}
+
+#[derive(Clone, Copy)]
+pub(crate) struct Job {
+    rounds: u32,
+    work: Work,
+}
+
+/// The rounds and the work, behind the file.
+pub(crate) fn read(words: &[String]) -> Option<Job> {
+    let [_program, _measure, _file, rounds, work] = words else {
+        return None;
+    };
+    let rounds = rounds.parse::<u32>().ok()?;
+    let work = read_work(work.as_str())?;
+    Some(Job { rounds, work })
+}
+
+/// A small job that types records.
+pub(crate) fn small() -> Job {
+    Job {
+        rounds: 2,
+        work: Work::Rows,
+    }
+}
+
+// The columns of the sales that `bench/make_csv` prints.
 fn shape() -> Option<Shape> {
     let mut columns = ArrayVec::new();
     for (name, kind) in [
@@ -74,15 +109,15 @@ fn type_each(alloc: Global, text: &[u8]) -> u64 {
 }
 
 /// How many records the rounds read in all.
-pub(crate) fn read_rounds(alloc: Global, text: &[u8], rounds: u32, work: Work) -> u64 {
+pub(crate) fn run(alloc: Global, text: &[u8], job: Job) -> Found {
     let mut records: u64 = 0;
-    for _ in 0..rounds {
-        let read = match work {
+    for _ in 0..job.rounds {
+        let read = match job.work {
             Work::Same => read_into_one(alloc, text),
             Work::Records => read_each(alloc, text),
             Work::Rows => type_each(alloc, text),
         };
         records = records.wrapping_add(read);
     }
-    records
+    Found::Sum(records)
 }
