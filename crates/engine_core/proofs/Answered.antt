@@ -7,7 +7,7 @@ use Rattle.std.proofs.lemmas.Slice.Eq.{slice_eq-Decides}
 use Rattle.std.proofs.lemmas.Bool.Decides.{Decides-eqb}
 use Rattle.mv_model.specs.declared.value.Value.{Value}
 use Rattle.mv_model.specs.declared.value.Value.TheVariants.{Int, Text}
-use Rattle.std.proofs.lemmas.Bool.{false≢true, and_right, or_from, le-ltb}
+use Rattle.std.proofs.lemmas.Bool.{false≢true, and_left, and_right, le-ltb}
 use Rattle.mv_model.specs.declared.call.Call.{Call}
 use Rattle.mv_model.specs.declared.call.Call.TheVariants as call
 use Rattle.mv_model.specs.declared.reply.Reply.{Reply}
@@ -22,13 +22,14 @@ use Rattle.engine_core.specs.Stage.{high_at}
 use Rattle.engine_core.specs.StageRules.{IsStage}
 use Rattle.engine_core.specs.Served.{insert_of, is_served, table_name}
 use Rattle.engine_core.specs.Decided.{IsDecided, IsDecision, IsClosed, IsPlacedLate, TakesMemory, left_of}
-use Rattle.engine_core.specs.LogicalState.{commits_in, is_seen, rows_from, state_of, within}
+use Rattle.engine_core.specs.LogicalState.{commits_in, is_seen, state_by, state_of, within}
 use Rattle.engine_core.specs.declared.decision.Decision.{Decision}
 use Rattle.engine_core.specs.declared.transactions.Transactions.{Transactions}
 use Rattle.engine_core.specs.declared.transactions.Running.{Running}
-use Rattle.engine_core.proofs.Rows.{length-commits_in, length-rows_from}
+use Rattle.engine_core.proofs.Rows.{length-commits_in, length-rows_from, rows_from}
 use Rattle.engine_core.specs.Survival.{IsRowBelow}
-use Rattle.engine_core.proofs.States.{commit-answer, commit-spent}
+use Rattle.engine_core.proofs.States.{commit-answer, commit-spent, creating}
+use Rattle.engine_core.proofs.Written.{state-open}
 use Rattle.engine_core.proofs.Decisions.{refused}
 use Rattle.engine_core.proofs.Commits.{close-decided}
 use Rattle.engine_core.proofs.Survivals.{close-survives, stands-survives}
@@ -54,20 +55,22 @@ begin-takes words begun said is =
     subst (λ (one : Call). TakesMemory (state_of words (record { begun = begun; running = None })) (answer (state_of words (record { begun = begun; running = None })) 1 one)) (sym is) refl
 
 -- and so does a commit that wrote nothing, or for which there is a number
-pub close-takes : (words : List ℕ) (begun : ℕ) (own : Running) → own.rows ≡ 0
+pub close-takes : (words : List ℕ) (begun : ℕ) (own : Running) → IsStage words (Some own) → own.rows ≡ 0
     → TakesMemory (state_of words (record { begun = begun; running = Some own })) (answer (state_of words (record { begun = begun; running = Some own })) 1 call.Commit)
-close-takes words begun own none =
-    let now : state_of words (record { begun = begun; running = Some own }) ≡ state_of words (record { begun = begun; running = Some (record { number = own.number; snapshot = own.snapshot; rows = 0 }) }) =
-    ap (λ (r : ℕ). state_of words (record { begun = begun; running = Some (record { number = own.number; snapshot = own.snapshot; rows = r }) })) none in
+close-takes words begun own stage none =
+    let high = get_or words high_at 0 in
+    let commits = commits_in words (get_or words last_at 0) in
+    let now : state_of words (record { begun = begun; running = Some own }) ≡ state_by (high + 0) commits begun (Some (creating own.number own.snapshot [])) =
+    state-open words own stage begun ∙ ap (λ (r : ℕ). state_by (high + r) commits begun (Some (creating own.number own.snapshot (rows_from words high r)))) none in
     subst (λ (s : State). TakesMemory s (answer s 1 call.Commit)) (sym now) refl
 
-pub commit-takes : (words : List ℕ) (begun : ℕ) (own : Running) → 0 < own.rows → get_or words last_at 0 < MAX_COMMITS
+pub commit-takes : (words : List ℕ) (begun : ℕ) (own : Running) → IsStage words (Some own) → 0 < own.rows → get_or words last_at 0 < MAX_COMMITS
     → TakesMemory (state_of words (record { begun = begun; running = Some own })) (answer (state_of words (record { begun = begun; running = Some own })) 1 call.Commit)
-commit-takes words begun own some few =
+commit-takes words begun own stage some few =
     let count = length-rows_from words (get_or words high_at 0) own.rows in
     let commits = length-commits_in words (get_or words last_at 0) in
     subst (λ (given : Reply). TakesMemory (state_of words (record { begun = begun; running = Some own })) given)
-    (sym (commit-answer (get_or words high_at 0 + own.rows) (commits_in words (get_or words last_at 0)) begun own.number own.snapshot (rows_from words (get_or words high_at 0) own.rows)
+    (sym (ap (λ (s : State). answer s 1 call.Commit) (state-open words own stage begun) ∙ commit-answer (get_or words high_at 0 + own.rows) (commits_in words (get_or words last_at 0)) begun own.number own.snapshot (rows_from words (get_or words high_at 0) own.rows)
     (omega (arith, count, some)) (omega (arith, commits, few)))) refl
 
 -- no transaction is open
@@ -97,12 +100,10 @@ already words begun own said stage is =
     (refused words (record { begun = begun; running = Some own }) call.Begin reply.AlreadyOpen stage refl refl tt refl tt)
 
 -- a row past the table's is not seen
-pub unseen-past : (words : List ℕ) (own : Running) (row : ℕ) → IsStage words (Some own) → 4096 ≤ row → is_seen words own row ≡ false
-unseen-past words own row stage past =
-    let room = stage.room in
+pub unseen-past : (words : List ℕ) (object snapshot row : ℕ) → 4096 ≤ row → is_seen words object snapshot row ≡ false
+unseen-past words object snapshot row past =
     let is_row : within 0 4096 row ≡ false = and_right _ _ (le-ltb row 4096 past) in
-    let is_own : within (get_or words high_at 0) own.rows row ≡ false = and_right _ _ (le-ltb row (get_or words high_at 0 + own.rows) (omega (arith, room, past))) in
-    and_right _ _ (or_from _ _ (and_right _ _ is_row) is_own)
+    and_left _ _ is_row
 
 -- all commit numbers are used
 pub spent : (words : List ℕ) (begun : ℕ) (own : Running) → IsStage words (Some own) → 0 < own.rows → MAX_COMMITS ≤ get_or words last_at 0
@@ -111,7 +112,7 @@ spent words begun own stage some many =
     let count = length-rows_from words (get_or words high_at 0) own.rows in
     let commits = length-commits_in words (get_or words last_at 0) in
     refused words (record { begun = begun; running = Some own }) call.Commit reply.Spent stage
-    (sym (commit-spent (get_or words high_at 0 + own.rows) (commits_in words (get_or words last_at 0)) begun own.number own.snapshot (rows_from words (get_or words high_at 0) own.rows)
+    (sym (ap (λ (s : State). answer s 1 call.Commit) (state-open words own stage begun) ∙ commit-spent (get_or words high_at 0 + own.rows) (commits_in words (get_or words last_at 0)) begun own.number own.snapshot (rows_from words (get_or words high_at 0) own.rows)
     (omega (arith, count, some)) (omega (arith, commits, many)))) refl tt refl tt
 
 -- the end of a transaction that wrote nothing

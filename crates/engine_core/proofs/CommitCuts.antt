@@ -26,12 +26,12 @@ use Rattle.stage_view.proofs.QuietPlans.{any-none}
 use Rattle.engine_core.specs.Stage.{high_at, born_at, ended_at, value_at}
 use Rattle.engine_core.specs.StagePlans.{commit_early, commit_late, stamp_part}
 use Rattle.engine_core.specs.StageRules.{IsStage}
-use Rattle.engine_core.specs.LogicalState.{commit_count, commit_of, commits_in, past_entry, rows_from, within}
+use Rattle.engine_core.specs.LogicalState.{commit_count, commit_of, commits_in, past_entry, within}
 use Rattle.engine_core.specs.Survival.{IsLike, IsShown, IsShownUntil, commit_reads, is_own}
 use Rattle.engine_core.proofs.Commits.{born_is, entry_is, commit_of-interval, clear_run}
 use Rattle.engine_core.proofs.Entries.{HasEntries, past-created, ending-created}
 use Rattle.engine_core.proofs.Ruled.{IsBesideObject, IsRuled, ruled-cleared, ruled-last, ruled-self, ruled-stamps, ruled-state, ruled-word}
-use Rattle.engine_core.proofs.Rows.{length-commits_in}
+use Rattle.engine_core.proofs.Rows.{length-commits_in, rows_from}
 use Rattle.engine_core.proofs.Shown.{fits-together, next-shown, quiet-shown}
 use Rattle.engine_core.proofs.Stores.{get-run, get-run_beside, get-run_last, run-misses}
 

@@ -19,10 +19,11 @@ use Rattle.engine_core.specs.Stage.{high_at, born_at, ended_at, value_at}
 use Rattle.engine_core.specs.StagePlans.{stamp_part, commit_late, commit_parts, close_parts}
 use Rattle.engine_core.specs.StageRules.{IsStage}
 use Rattle.engine_core.specs.Decided.{IsDecided, IsLateIn}
-use Rattle.engine_core.specs.LogicalState.{commit_of, commits_in, created_row, key_of, rows_from, rows_where, state_by, state_of}
-use Rattle.engine_core.proofs.Rows.{IsSameUpTo, commits_in-same, commits_in-more, rows_from-same, length-rows_from, length-commits_in, rows_where-interval, rows_where-none}
+use Rattle.engine_core.specs.LogicalState.{commit_of, commits_in, created_row, key_of, rows_where, state_by, state_of}
+use Rattle.engine_core.proofs.Rows.{IsSameUpTo, commits_in-same, commits_in-more, rows_from-same, length-rows_from, length-commits_in, rows_where-interval, rows_where-none, rows_from}
 use Rattle.engine_core.proofs.States.{creating, commit-answer, commit-next, commit-none, close-next}
 use Rattle.engine_core.proofs.Stores.{words_after-plan, get-stored, get-beside, get-run, get-run_beside, get-run_last, run, run-part, stores-at}
+use Rattle.engine_core.proofs.Written.{count-created, state-open, writes-stage}
 use Rattle.engine_core.proofs.Decisions.{state_with, state_without, switched, switch-same, switch-stage}
 
 unless_empty-last : (part : Part) (action : Action) → unless_empty (part ++ action ∷ []) ≡ (part ++ action ∷ []) ∷ []
@@ -266,7 +267,8 @@ module _ (words : List ℕ) (begun number snapshot rows high last : ℕ) (stage 
       let commits = commits_in words last in
       let count = length-rows_from words high rows in
       let many = length-commits_in words last in
-      let before = state_with words begun number snapshot rows high last commits created is_high is_last refl refl in
+      let written = writes-stage words (record { number = number; snapshot = snapshot; rows = rows }) stage ∙ ap (λ (h : ℕ). record { created = rows_from words h rows; ended = [] }) is_high in
+      let before = state_with words begun number snapshot rows high last commits created is_high is_last refl written in
       let same : high + rows ≡ high + rows + 0 = omega arith in
       let first_is : high ≡ get_or words high_at 0 + rows - rows = omega (arith, is_high) in
       record {
@@ -284,7 +286,7 @@ module _ (words : List ℕ) (begun number snapshot rows high last : ℕ) (stage 
         full = tt;
         memory = tt;
         planned = is_actions ∙ ap (λ (n : ℕ). plan_of (commit_parts n rows commit)) first_is
-            ∙ ap (λ (n : ℕ). plan_of (commit_parts (get_or words high_at 0 + rows - n) n commit)) (sym (length-rows_from words (get_or words high_at 0) rows));
+            ∙ ap (λ (n : ℕ). plan_of (commit_parts (get_or words high_at 0 + rows - n) n commit)) (sym (count-created words (record { number = number; snapshot = snapshot; rows = rows }) stage begun));
         short = short;
         begun = omega arith;
       }
@@ -292,7 +294,7 @@ module _ (words : List ℕ) (begun number snapshot rows high last : ℕ) (stage 
   -- so many of its actions come after the fence that makes it certain
   pub commit-timed : (commit late : ℕ) → late ≡ length (plan_of (commit_late rows commit))
       → IsLateIn (state_of words (record { begun = begun; running = Some (record { number = number; snapshot = snapshot; rows = rows }) })) (Some (record { number = commit; left = late }))
-  commit-timed commit late is_late = is_late ∙ ap (λ (n : ℕ). length (plan_of (commit_late n commit))) (sym (length-rows_from words (get_or words high_at 0) rows))
+  commit-timed commit late is_late = is_late ∙ ap (λ (n : ℕ). length (plan_of (commit_late n commit))) (sym (count-created words (record { number = number; snapshot = snapshot; rows = rows }) stage begun))
 
 -- ── the end of a transaction that wrote nothing ──
 
@@ -310,7 +312,8 @@ close-decided words begun number snapshot rows stage actions none is_actions sho
     let new = words_after (one_store (state_at 0) 0) words in
     let after : words_after actions words ≡ words_after (one_store (state_at 0) 0) words = ap (λ (xs : List Action). words_after xs words) plan_is ∙ words_after-plan (one_store (state_at 0) 0 ∷ []) words in
     let before : state_of words (record { begun = begun; running = Some (record { number = number; snapshot = snapshot; rows = rows }) }) ≡ state_by (high + 0) commits begun (Some (creating number snapshot [])) =
-    ap (λ (r : ℕ). state_of words (record { begun = begun; running = Some (record { number = number; snapshot = snapshot; rows = r }) })) none in
+    state-open words (record { number = number; snapshot = snapshot; rows = rows }) stage begun
+    ∙ ap (λ (r : ℕ). state_by (high + r) commits begun (Some (creating number snapshot (rows_from words high r)))) none in
     record {
       allowed = subst (λ (s : State). IsAllowed s 1 call.Commit reply.ReadOnly) (sym before) (sym (commit-none (high + 0) commits begun number snapshot));
       parts = one_store (state_at 0) 0 ∷ [];

@@ -2,7 +2,7 @@
 use Rattle.std.proofs.Common.{◌≡◌, ◌≢◌, ◌⊎◌, inl, inr, ⊎_elim, ℕ, ℤ, ◌+◌, ◌<◌, ◌≤◌, ◌∙◌, eqb, List, [], ◌∷◌, ◌++◌, length, get_or, Option, None, Some, refl, ap, sym, subst, arith}
 use Rattle.std.specs.Prelude.{IsTrue}
 use Rattle.std.proofs.lemmas.Bool.{cases_eq}
-use Rattle.mv_model.specs.State.{CreatedRow, WriteSet}
+use Rattle.mv_model.specs.State.{CreatedRow, State, Transaction, WriteSet}
 use Rattle.mv_model.specs.declared.value.Value.TheVariants.{Int}
 use Rattle.mv_model.specs.declared.call.Call.{Call}
 use Rattle.mv_model.specs.declared.call.Call.TheVariants as call
@@ -24,12 +24,13 @@ use Rattle.engine_core.specs.StageRules.{IsStage, state_word}
 use Rattle.engine_core.specs.Served.{insert_of}
 use Rattle.engine_core.specs.Actions.{plan_due}
 use Rattle.engine_core.specs.Decided.{IsDecided, IsFullWhere, IsNoMemoryWhere, TakesMemory}
-use Rattle.engine_core.specs.LogicalState.{commits_in, created_row, integer_of, key_of, key_word_of, rows_from, rows_of, snapshot_of, state_by, state_of}
+use Rattle.engine_core.specs.LogicalState.{commits_in, created_row, integer_of, key_of, key_word_of, rows_of, snapshot_of, state_by, state_of, writes_in}
 use Rattle.engine_core.specs.declared.transactions.Transactions.{Transactions}
 use Rattle.engine_core.specs.declared.transactions.Running.{Running}
-use Rattle.engine_core.proofs.Rows.{IsSameUpTo, commits_in-same, rows_from-same, rows_from-more, length-rows_from, length-commits_in}
+use Rattle.engine_core.proofs.Rows.{IsSameUpTo, commits_in-same, rows_from-same, rows_from-more, length-rows_from, length-commits_in, rows_from}
 use Rattle.engine_core.proofs.States.{creating, begin-answer, begin-next, insert-answer, insert-next, put-rows_from}
 use Rattle.engine_core.proofs.Stores.{words_after-plan, get-stored, get-beside}
+use Rattle.engine_core.proofs.Written.{count-created, state-open, writes-stage}
 
 -- a refusal, or a reading
 pub refused : (words : List ℕ) (now : Transactions) (call : Call) (given : Reply) → IsStage words now.running → IsAllowed (state_of words now) 1 call given
@@ -51,13 +52,16 @@ refused words now call given stage allowed same full planned memory = record {
 
 -- what the words stand for, part by part
 pub state_with : (new : List ℕ) (begun number snapshot rows high last : ℕ) (commits : List WriteSet) (created : List CreatedRow)
-    → get_or new high_at 0 ≡ high → get_or new last_at 0 ≡ last → commits_in new last ≡ commits → rows_from new high rows ≡ created
+    → get_or new high_at 0 ≡ high → get_or new last_at 0 ≡ last → commits_in new last ≡ commits → writes_in new 0 ≡ record { created = created; ended = [] }
     → state_of new (record { begun = begun; running = Some (record { number = number; snapshot = snapshot; rows = rows }) }) ≡ state_by (high + rows) commits begun (Some (creating number snapshot created))
-state_with new begun number snapshot rows high last commits created is_high is_last is_commits is_created =
-    ap (λ (h : ℕ). state_by (h + rows) (commits_in new (get_or new last_at 0)) begun (Some (creating number snapshot (rows_from new h rows)))) is_high
-    ∙ ap (λ (l : ℕ). state_by (high + rows) (commits_in new l) begun (Some (creating number snapshot (rows_from new high rows)))) is_last
-    ∙ ap (λ (c : List WriteSet). state_by (high + rows) c begun (Some (creating number snapshot (rows_from new high rows)))) is_commits
-    ∙ ap (λ (c : List CreatedRow). state_by (high + rows) commits begun (Some (creating number snapshot c))) is_created
+state_with new begun number snapshot rows high last commits created is_high is_last is_commits is_written =
+    ap (λ (h : ℕ). state_by (h + rows) (commits_in new (get_or new last_at 0)) begun (Some (wrote (writes_in new 0)))) is_high
+    ∙ ap (λ (l : ℕ). state_by (high + rows) (commits_in new l) begun (Some (wrote (writes_in new 0)))) is_last
+    ∙ ap (λ (c : List WriteSet). state_by (high + rows) c begun (Some (wrote (writes_in new 0)))) is_commits
+    ∙ ap (λ (w : WriteSet). state_by (high + rows) commits begun (Some (wrote w))) is_written
+  where
+    wrote : WriteSet → Transaction
+    wrote writes = record { number = number; snapshot = snapshot; writes = writes }
 
 pub state_without : (new : List ℕ) (begun high last : ℕ) (commits : List WriteSet)
     → get_or new high_at 0 ≡ high → get_or new last_at 0 ≡ last → commits_in new last ≡ commits
@@ -104,11 +108,15 @@ module _ (words : List ℕ) (value : ℕ) where
 -- ── begin ──
 
 module _ (words : List ℕ) (begun : ℕ) (stage : IsStage words None) where
+  begin-stage : IsStage (words_after (one_store (state_at 0) 1) words) (Some (record { number = begun + 1; snapshot = get_or words last_at 0; rows = 0 }))
+  begin-stage = switch-stage words 1 None (Some (record { number = begun + 1; snapshot = get_or words last_at 0; rows = 0 })) stage refl refl (omega arith) refl
+
   begin-state : state_of (words_after (one_store (state_at 0) 1) words) (record { begun = begun + 1; running = Some (record { number = begun + 1; snapshot = get_or words last_at 0; rows = 0 }) })
       ≡ state_by (get_or words high_at 0 + 0) (commits_in words (get_or words last_at 0)) (begun + 1) (Some (creating (begun + 1) (get_or words last_at 0) []))
   begin-state = state_with (words_after (one_store (state_at 0) 1) words) (begun + 1) (begun + 1) (get_or words last_at 0) 0 (get_or words high_at 0) (get_or words last_at 0) (commits_in words (get_or words last_at 0)) []
       (switched words 1 high_at (λ e. omega (arith, e))) (switched words 1 last_at (λ e. omega (arith, e)))
-      (commits_in-same (get_or words last_at 0) words (words_after (one_store (state_at 0) 1) words) (switch-same words 1)) refl
+      (commits_in-same (get_or words last_at 0) words (words_after (one_store (state_at 0) 1) words) (switch-same words 1))
+      (writes-stage (words_after (one_store (state_at 0) 1) words) (record { number = begun + 1; snapshot = get_or words last_at 0; rows = 0 }) begin-stage)
 
   pub begin-decided : (number snapshot : ℕ) (actions : List Action) → number ≡ begun + 1 → snapshot ≡ get_or words last_at 0 → actions ≡ plan_of (begin_parts 0) → length actions ≤ 400
       → IsDecided words (record { begun = begun; running = None }) call.Begin (reply.Began number snapshot) actions (record { begun = number; running = Some (record { number = number; snapshot = snapshot; rows = 0 }) })
@@ -125,7 +133,7 @@ module _ (words : List ℕ) (begun : ℕ) (stage : IsStage words None) where
         full = tt;
         memory = tt;
         planned = is_actions;
-        stage = rw (is_snapshot, after) (switch-stage words 1 None (Some (record { number = begun + 1; snapshot = get_or words last_at 0; rows = 0 })) stage refl refl (omega arith) refl);
+        stage = rw (is_snapshot, after) begin-stage;
         short = short;
         begun = omega arith;
       })
@@ -170,14 +178,6 @@ module _ (words : List ℕ) (begun number snapshot rows : ℕ) (stage : IsStage 
       ∙ ap (λ (k : ℕ). rows_from words (get_or words high_at 0) rows ++ created_row (finished (insert_parts rows row word) words) k ∷ []) (sym is_row)
       ∙ ap (λ (x : ℕ). rows_from words (get_or words high_at 0) rows ++ record { key = key_of row; values = Int (integer_of x) ∷ [] } ∷ []) insert-value
 
-  insert-state : state_of (finished (insert_parts rows row word) words) (record { begun = begun; running = Some (record { number = number; snapshot = snapshot; rows = rows + 1 }) })
-      ≡ state_by (get_or words high_at 0 + (rows + 1)) (commits_in words (get_or words last_at 0)) begun
-      (Some (creating number snapshot (rows_from words (get_or words high_at 0) rows ++ record { key = key_of row; values = Int (integer_of word) ∷ [] } ∷ [])))
-  insert-state = state_with (finished (insert_parts rows row word) words) begun number snapshot (rows + 1) (get_or words high_at 0) (get_or words last_at 0) (commits_in words (get_or words last_at 0))
-      (rows_from words (get_or words high_at 0) rows ++ record { key = key_of row; values = Int (integer_of word) ∷ [] } ∷ [])
-      (insert-beside high_at (λ e. omega (arith, e)) (λ e. omega (arith, e))) (insert-beside last_at (λ e. omega (arith, e)) (λ e. omega (arith, e)))
-      (commits_in-same (get_or words last_at 0) words (finished (insert_parts rows row word) words) insert-same) insert-created
-
   insert-stage : IsStage (finished (insert_parts rows row word) words) (Some (record { number = number; snapshot = snapshot; rows = rows + 1 }))
   insert-stage =
       let new = finished (insert_parts rows row word) words in
@@ -205,6 +205,22 @@ module _ (words : List ℕ) (begun number snapshot rows : ℕ) (stage : IsStage 
         others = λ object low lt. insert-beside (state_at object) (λ e. omega (arith, e, low, few)) (λ e. omega (arith, e, lt)) ∙ stage.others object low lt;
       }
 
+  insert-writes : writes_in (finished (insert_parts rows row word) words) 0
+      ≡ record { created = rows_from words (get_or words high_at 0) rows ++ record { key = key_of row; values = Int (integer_of word) ∷ [] } ∷ []; ended = [] }
+  insert-writes =
+      let new = finished (insert_parts rows row word) words in
+      writes-stage new (record { number = number; snapshot = snapshot; rows = rows + 1 }) insert-stage
+      ∙ ap (λ (h : ℕ). record { created = rows_from new h (rows + 1); ended = [] }) (insert-beside high_at (λ e. omega (arith, e)) (λ e. omega (arith, e)))
+      ∙ ap (λ (xs : List CreatedRow). record { created = xs; ended = [] }) insert-created
+
+  insert-state : state_of (finished (insert_parts rows row word) words) (record { begun = begun; running = Some (record { number = number; snapshot = snapshot; rows = rows + 1 }) })
+      ≡ state_by (get_or words high_at 0 + (rows + 1)) (commits_in words (get_or words last_at 0)) begun
+      (Some (creating number snapshot (rows_from words (get_or words high_at 0) rows ++ record { key = key_of row; values = Int (integer_of word) ∷ [] } ∷ [])))
+  insert-state = state_with (finished (insert_parts rows row word) words) begun number snapshot (rows + 1) (get_or words high_at 0) (get_or words last_at 0) (commits_in words (get_or words last_at 0))
+      (rows_from words (get_or words high_at 0) rows ++ record { key = key_of row; values = Int (integer_of word) ∷ [] } ∷ [])
+      (insert-beside high_at (λ e. omega (arith, e)) (λ e. omega (arith, e))) (insert-beside last_at (λ e. omega (arith, e)) (λ e. omega (arith, e)))
+      (commits_in-same (get_or words last_at 0) words (finished (insert_parts rows row word) words) insert-same) insert-writes
+
   pub insert-decided : (value : ℤ) (actions : List Action) → integer_of word ≡ value → word ≡ key_word_of value → actions ≡ plan_of (insert_parts rows row word) → length actions ≤ 400
       → IsDecided words (record { begun = begun; running = Some (record { number = number; snapshot = snapshot; rows = rows }) }) (insert_of value) (reply.Row row) actions
       (record { begun = begun; running = Some (record { number = number; snapshot = snapshot; rows = rows + 1 }) })
@@ -214,10 +230,13 @@ module _ (words : List ℕ) (begun number snapshot rows : ℕ) (stage : IsStage 
       let created = rows_from words (get_or words high_at 0) rows in
       let given = get_or words high_at 0 + rows in
       let count = length-rows_from words (get_or words high_at 0) rows in
+      let many = count-created words (record { number = number; snapshot = snapshot; rows = rows }) stage begun in
+      let before = state-open words (record { number = number; snapshot = snapshot; rows = rows }) stage begun in
       let next_one : given + 1 ≡ get_or words high_at 0 + (rows + 1) = omega arith in
       let one : CreatedRow = record { key = key_of row; values = Int value ∷ [] } in
       record {
-        allowed = sym (insert-answer given commits begun number snapshot created value (omega (arith, count, few)) (omega (arith, is_row, fewer)) ∙ ap reply.Row (sym is_row));
+        allowed = subst (λ (s : State). IsAllowed s 1 (insert_of value) (reply.Row row)) (sym before)
+            (sym (insert-answer given commits begun number snapshot created value (omega (arith, count, few)) (omega (arith, is_row, fewer)) ∙ ap reply.Row (sym is_row)));
         parts = insert_parts rows row word;
         plan = (
           store_part (length words) (entry_at 0 rows) (entry_word (created_entry row)) (let s = stage.size in omega (arith, s, few)),
@@ -225,7 +244,8 @@ module _ (words : List ℕ) (begun number snapshot rows : ℕ) (stage : IsStage 
         );
         plan_is = is_actions;
         state =
-            insert-next given commits begun number snapshot created value row
+            ap (λ (s : State). next s 1 (insert_of value) (reply.Row row)) before
+            ∙ insert-next given commits begun number snapshot created value row
             ∙ ap (λ (xs : List CreatedRow). state_by (given + 1) commits begun (Some (creating number snapshot xs)))
             (put-rows_from words row one (get_or words high_at 0) rows refl (omega (arith, is_row)))
             ∙ ap (λ (n : ℕ). state_by n commits begun (Some (creating number snapshot (created ++ one ∷ [])))) next_one
@@ -233,9 +253,9 @@ module _ (words : List ℕ) (begun number snapshot rows : ℕ) (stage : IsStage 
             ∙ sym insert-state
             ∙ ap (λ (new : List ℕ). state_of new (record { begun = begun; running = Some (record { number = number; snapshot = snapshot; rows = rows + 1 }) })) (sym after);
         stage = rw after insert-stage;
-        full = (fewer, omega (arith, count, few));
+        full = (fewer, subst (λ (n : ℕ). n < 60) (sym many) few);
         memory = tt;
-        planned = is_actions ∙ ap (λ (n : ℕ). plan_of (insert_parts n row word)) (sym count) ∙ ap (λ (w : ℕ). plan_of (insert_parts (length created) row w)) is_word;
+        planned = is_actions ∙ ap (λ (w : ℕ). plan_of (insert_parts rows row w)) is_word ∙ ap (λ (n : ℕ). plan_of (insert_parts n row (key_word_of value))) (sym many);
         short = short;
         begun = omega arith;
       }
@@ -253,21 +273,25 @@ insert-full words begun number snapshot rows value stage none =
     let created = rows_from words high rows in
     let count = length-rows_from words high rows in
     let before : Transactions = record { begun = begun; running = Some (record { number = number; snapshot = snapshot; rows = rows }) } in
+    let many = count-created words (record { number = number; snapshot = snapshot; rows = rows }) stage begun in
     let due : answer (state_of words before) 1 (insert_of value) ≡ reply.Row (high + rows) =
-    insert-answer (high + rows) (commits_in words last) begun number snapshot created value (omega (arith, count, few)) (omega (arith, room)) in
+    ap (λ (s : State). answer s 1 (insert_of value)) (state-open words (record { number = number; snapshot = snapshot; rows = rows }) stage begun)
+    ∙ insert-answer (high + rows) (commits_in words last) begun number snapshot created value (omega (arith, count, few)) (omega (arith, room)) in
     refused words before (insert_of value) (reply.Full 1 0) stage (subst (λ (given : Reply). IsTrue (needs_room given)) (sym due) refl) refl
-    (refl, refl, ⊎_elim (λ (many : 60 ≤ rows). inr (omega (arith, many, few, count))) (λ (many : 4096 ≤ high + rows). inl (omega (arith, many, room))) none) refl tt
+    (refl, refl, ⊎_elim (λ (all : 60 ≤ rows). inr (many ∙ omega (arith, all, few))) (λ (all : 4096 ≤ high + rows). inl (omega (arith, all, room))) none) refl tt
 
 -- an insert takes memory where the table has a row, and the object an entry
-pub insert-takes : (words : List ℕ) (begun number snapshot rows : ℕ) (value : ℤ) → rows < 60 → get_or words high_at 0 + rows < 4096
+pub insert-takes : (words : List ℕ) (begun number snapshot rows : ℕ) (value : ℤ) → IsStage words (Some (record { number = number; snapshot = snapshot; rows = rows })) → rows < 60 → get_or words high_at 0 + rows < 4096
     → TakesMemory (state_of words (record { begun = begun; running = Some (record { number = number; snapshot = snapshot; rows = rows }) }))
     (answer (state_of words (record { begun = begun; running = Some (record { number = number; snapshot = snapshot; rows = rows }) })) 1 (insert_of value))
-insert-takes words begun number snapshot rows value few fewer =
+insert-takes words begun number snapshot rows value stage few fewer =
     let high = get_or words high_at 0 in
     let last = get_or words last_at 0 in
     let created = rows_from words high rows in
     let count = length-rows_from words high rows in
     let before : Transactions = record { begun = begun; running = Some (record { number = number; snapshot = snapshot; rows = rows }) } in
     let due : answer (state_of words before) 1 (insert_of value) ≡ reply.Row (high + rows) =
-    insert-answer (high + rows) (commits_in words last) begun number snapshot created value (omega (arith, count, few)) (omega (arith, fewer)) in
-    subst (λ (given : Reply). TakesMemory (state_of words before) given) (sym due) (fewer, omega (arith, count, few))
+    ap (λ (s : State). answer s 1 (insert_of value)) (state-open words (record { number = number; snapshot = snapshot; rows = rows }) stage begun)
+    ∙ insert-answer (high + rows) (commits_in words last) begun number snapshot created value (omega (arith, count, few)) (omega (arith, fewer)) in
+    let many = count-created words (record { number = number; snapshot = snapshot; rows = rows }) stage begun in
+    subst (λ (given : Reply). TakesMemory (state_of words before) given) (sym due) (fewer, subst (λ (n : ℕ). n < 60) (sym many) few)

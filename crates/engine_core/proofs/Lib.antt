@@ -18,6 +18,7 @@ pub mod Safeties
 pub mod Played
 pub mod ImageFacts
 pub mod Entries
+pub mod Written
 pub mod Ruled
 pub mod Shown
 pub mod CommitCuts

@@ -13,7 +13,7 @@ use Rattle.std.proofs.lemmas.List.{map-append}
 use Rattle.std.proofs.lemmas.List.Folds.{list_any-append}
 use Rattle.image_layout.proofs.Ranges.{range_append, map_same}
 use Rattle.engine_core.specs.Stage.{born_at, ended_at, value_at}
-use Rattle.engine_core.specs.LogicalState.{commit_of, commits_in, created_row, key_of, integer_of, rows_from, rows_where, within}
+use Rattle.engine_core.specs.LogicalState.{commit_of, commits_in, created_row, key_of, integer_of, rows_where, within}
 
 -- ── ranges ──
 
@@ -104,6 +104,12 @@ has-rows_where p row =
     any-filter_same (λ k. eqb k row) p (p row) (λ k same. ap p (eqb-true k row same)) (range_with_len 0 4096)
     ∙ ap (λ (b : Bool). p row && b) (has-range 0 4096 row)
 
+joined : (a b c : Bool) → ((a && c) || (b && c)) ≡ ((a || b) && c)
+joined true b true = refl
+joined true true false = refl
+joined true false false = refl
+joined false b c = refl
+
 -- the rows whose stamp is one of these numbers
 abbrev stamped : (ℕ → ℕ) → ℕ → ℕ → List ℕ
 stamped stamp first n = flat_map (λ number. rows_where (λ row. eqb (stamp row) number)) (range_with_len first n)
@@ -117,12 +123,6 @@ has-stamped stamp row first (suc n) =
     ∙ joined (eqb (stamp row) first) (within (first + 1) n (stamp row)) (within 0 4096 row)
     ∙ ap (λ (b : Bool). b && within 0 4096 row) (ap (λ (b : Bool). b || within (first + 1) n (stamp row)) (turned (stamp row) first) ∙ within-step first n (stamp row))
   where
-    joined : (a b c : Bool) → ((a && c) || (b && c)) ≡ ((a || b) && c)
-    joined true b true = refl
-    joined true true false = refl
-    joined true false false = refl
-    joined false b c = refl
-
     turned : (x y : ℕ) → eqb x y ≡ eqb y x
     turned x y = grind (arith, nat_tests)
 
@@ -138,47 +138,54 @@ any-keys : (numbers : List ℕ) (row : ℕ) → list_any (is_key_of 0 row) (map 
 any-keys [] row = refl
 any-keys (number ∷ numbers) row = ap (λ (b : Bool). eqb number row || b) (any-keys numbers row)
 
-created-numbers : (words own : List ℕ) (first n : ℕ)
-    → created_rows (map (commit_of words) (range_with_len first n) ++ record { created = map (created_row words) own; ended = [] } ∷ [])
+created-numbers : (words own : List ℕ) (gone : List RowKey) (first n : ℕ)
+    → created_rows (map (commit_of words) (range_with_len first n) ++ record { created = map (created_row words) own; ended = gone } ∷ [])
     ≡ map (created_row words) (stamped (λ row. get_or words (born_at row) 0) first n ++ own)
-created-numbers words own first zero = append-nil (map (created_row words) own)
-created-numbers words own first (suc n) =
+created-numbers words own gone first zero = append-nil (map (created_row words) own)
+created-numbers words own gone first (suc n) =
     let here = rows_where (λ row. eqb (get_or words (born_at row) 0) first) in
     let rest = stamped (λ row. get_or words (born_at row) 0) (first + 1) n in
-    ap (λ (xs : List CreatedRow). map (created_row words) here ++ xs) (created-numbers words own (first + 1) n)
+    ap (λ (xs : List CreatedRow). map (created_row words) here ++ xs) (created-numbers words own gone (first + 1) n)
     ∙ sym (map-append (created_row words) here (rest ++ own))
     ∙ ap (map (created_row words)) (sym (append_assoc here rest own))
 
-ended-numbers : (words : List ℕ) (own : List CreatedRow) (first n : ℕ)
-    → ended_rows (map (commit_of words) (range_with_len first n) ++ record { created = own; ended = [] } ∷ [])
-    ≡ map key_of (stamped (λ row. get_or words (ended_at row) 0) first n)
-ended-numbers words own first zero = refl
-ended-numbers words own first (suc n) =
+ended-numbers : (words own : List ℕ) (made : List CreatedRow) (first n : ℕ)
+    → ended_rows (map (commit_of words) (range_with_len first n) ++ record { created = made; ended = map key_of own } ∷ [])
+    ≡ map key_of (stamped (λ row. get_or words (ended_at row) 0) first n ++ own)
+ended-numbers words own made first zero = append-nil (map key_of own)
+ended-numbers words own made first (suc n) =
     let here = rows_where (λ row. eqb (get_or words (ended_at row) 0) first) in
-    ap (λ (xs : List RowKey). map key_of here ++ xs) (ended-numbers words own (first + 1) n)
-    ∙ sym (map-append key_of here (stamped (λ row. get_or words (ended_at row) 0) (first + 1) n))
+    let rest = stamped (λ row. get_or words (ended_at row) 0) (first + 1) n in
+    ap (λ (xs : List RowKey). map key_of here ++ xs) (ended-numbers words own made (first + 1) n)
+    ∙ sym (map-append key_of here (rest ++ own))
+    ∙ ap (map key_of) (sym (append_assoc here rest own))
 
--- the row is ended by one of the commits
-pub ended-found : (words : List ℕ) (own : List CreatedRow) (row count : ℕ)
-    → list_any (is_key_of 0 row) (ended_rows (commits_in words count ++ record { created = own; ended = [] } ∷ []))
-    ≡ (within 1 count (get_or words (ended_at row) 0) && within 0 4096 row)
-ended-found words own row count =
-    ap (list_any (is_key_of 0 row)) (ended-numbers words own 1 count)
-    ∙ any-keys (stamped (λ k. get_or words (ended_at k) 0) 1 count) row
-    ∙ has-stamped (λ k. get_or words (ended_at k) 0) row 1 count
+-- a row is among those with these stamps, or among those that pass
+has-either : (stamp : ℕ → ℕ) (own : ℕ → Bool) (row count : ℕ)
+    → has (stamped stamp 1 count ++ rows_where own) row ≡ ((within 1 count (stamp row) || own row) && within 0 4096 row)
+has-either stamp own row count =
+    has-append (stamped stamp 1 count) (rows_where own) row
+    ∙ ap (λ (b : Bool). b || has (rows_where own) row) (has-stamped stamp row 1 count)
+    ∙ ap (λ (b : Bool). (within 1 count (stamp row) && within 0 4096 row) || b) (has-rows_where own row)
+    ∙ joined (within 1 count (stamp row)) (own row) (within 0 4096 row)
+
+-- the row is ended by one of the commits, or it is one of these
+pub ended-found : (words : List ℕ) (made : List CreatedRow) (own : ℕ → Bool) (row count : ℕ)
+    → list_any (is_key_of 0 row) (ended_rows (commits_in words count ++ record { created = made; ended = map key_of (rows_where own) } ∷ []))
+    ≡ ((within 1 count (get_or words (ended_at row) 0) || own row) && within 0 4096 row)
+ended-found words made own row count =
+    ap (list_any (is_key_of 0 row)) (ended-numbers words (rows_where own) made 1 count)
+    ∙ any-keys (stamped (λ k. get_or words (ended_at k) 0) 1 count ++ rows_where own) row
+    ∙ has-either (λ k. get_or words (ended_at k) 0) own row count
 
 -- the row is created by one of the commits, or it is one of these
-pub created-found : (words : List ℕ) (row count first n : ℕ)
-    → find (λ created. is_key_of 0 row created.key) (created_rows (commits_in words count ++ record { created = rows_from words first n; ended = [] } ∷ []))
-    ≡ cond ((within 1 count (get_or words (born_at row) 0) && within 0 4096 row) || within first n row) (Some (created_row words row)) None
-created-found words row count first n =
-    let born = stamped (λ k. get_or words (born_at k) 0) 1 count in
-    ap (find (λ created. is_key_of 0 row created.key)) (created-numbers words (range_with_len first n) 1 count)
-    ∙ find-rows words (born ++ range_with_len first n) row
-    ∙ ap (λ (b : Bool). cond b (Some (created_row words row)) None)
-    (has-append born (range_with_len first n) row
-    ∙ ap (λ (b : Bool). b || has (range_with_len first n) row) (has-stamped (λ k. get_or words (born_at k) 0) row 1 count)
-    ∙ ap (λ (b : Bool). (within 1 count (get_or words (born_at row) 0) && within 0 4096 row) || b) (has-range first n row))
+pub created-found : (words : List ℕ) (gone : List RowKey) (own : ℕ → Bool) (row count : ℕ)
+    → find (λ created. is_key_of 0 row created.key) (created_rows (commits_in words count ++ record { created = map (created_row words) (rows_where own); ended = gone } ∷ []))
+    ≡ cond ((within 1 count (get_or words (born_at row) 0) || own row) && within 0 4096 row) (Some (created_row words row)) None
+created-found words gone own row count =
+    ap (find (λ created. is_key_of 0 row created.key)) (created-numbers words (rows_where own) gone 1 count)
+    ∙ find-rows words (stamped (λ k. get_or words (born_at k) 0) 1 count ++ rows_where own) row
+    ∙ ap (λ (b : Bool). cond b (Some (created_row words row)) None) (has-either (λ k. get_or words (born_at k) 0) own row count)
 
 -- ── commits ──
 
@@ -212,6 +219,10 @@ pub commits_in-more : (words : List ℕ) (count : ℕ) → commits_in words (cou
 commits_in-more words count = map-range_with_len_more (commit_of words) 1 count (count + 1) (omega arith)
 
 -- ── the rows of the open transaction ──
+
+-- so many rows from this one on
+abbrev pub rows_from : List ℕ → ℕ → ℕ → List CreatedRow
+rows_from words first count = map (created_row words) (range_with_len first count)
 
 pub rows_from-same : (words new : List ℕ) (first n : ℕ) → ((row : ℕ) → first ≤ row → row < first + n → get_or new (value_at row) 0 ≡ get_or words (value_at row) 0) → rows_from new first n ≡ rows_from words first n
 rows_from-same words new first n same = map_same (created_row new) (created_row words) first n (λ row le lt. created_row-same words new row (same row le lt))

@@ -10,7 +10,8 @@ use Rattle.mv_model.specs.declared.limits.TheConstants.{MAX_COMMITS, MAX_ROWS, M
 use Rattle.mv_model.specs.Answer.{answer, get_reply}
 use Rattle.mv_model.specs.Next.{next, is_before, put_in_order}
 use Rattle.engine_core.specs.Served.{get_of, insert_of}
-use Rattle.engine_core.specs.LogicalState.{created_row, key_of, rows_from, state_by}
+use Rattle.engine_core.specs.LogicalState.{created_row, key_of, state_by}
+use Rattle.engine_core.proofs.Rows.{rows_from}
 
 -- an open transaction that has ended no row
 abbrev pub creating : ℕ → ℕ → List CreatedRow → Transaction

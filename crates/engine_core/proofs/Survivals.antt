@@ -24,7 +24,8 @@ use Rattle.engine_core.specs.Stage.{high_at, born_at, value_at}
 use Rattle.engine_core.specs.StagePlans.{close_parts, commit_late, commit_parts, created_entry, insert_parts}
 use Rattle.engine_core.specs.StageRules.{IsStage}
 use Rattle.engine_core.specs.Decided.{IsDecided}
-use Rattle.engine_core.specs.LogicalState.{commits_in, next_row, rows_from, state_of}
+use Rattle.engine_core.specs.LogicalState.{commits_in, next_row, state_of}
+use Rattle.engine_core.proofs.Rows.{rows_from}
 use Rattle.engine_core.specs.Recoverable.{Fits}
 use Rattle.engine_core.specs.Served.{insert_of}
 use Rattle.engine_core.specs.Survival.{IsLike, IsRowBelow, IsShown, SurvivesCuts, SurvivesInHalves, insert_reads, is_own}

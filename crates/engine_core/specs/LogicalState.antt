@@ -11,6 +11,8 @@ use Rattle.mv_model.specs.State.{CreatedRow, RowKey, Table, WriteSet, Transactio
 use Rattle.image_layout.specs.Fixed.{last_at}
 unfoldable pub use Rattle.stage_view.specs.StageWords.{greatest}
 pub use Rattle.stage_view.specs.StageWords.{of_open, commit_count, past_entry, next_row}
+use Rattle.txn_object.specs.Object.{own_object}
+use Rattle.stage_view.specs.StageView.{view_of}
 use Rattle.engine_core.specs.Stage.{high_at, born_at, ended_at, value_at}
 use Rattle.engine_core.specs.declared.transactions.Transactions.{Transactions}
 use Rattle.engine_core.specs.declared.transactions.Running.{Running}
@@ -77,18 +79,21 @@ one_empty_table = record { tables = table_of 0 ∷ []; commits = []; begun = 0; 
 abbrev pub within : ℕ → ℕ → ℕ → Bool
 within first count number = nat_le first number && nat_lt number (first + count)
 
--- The open transaction sees the row: no commit that it reads ended it, and one of these or the transaction itself
--- created it.
-abbrev pub is_seen : List ℕ → Running → ℕ → Bool
-is_seen words own row =
-    let is_row = within 0 4096 row in
-    not (within 1 own.snapshot (slice_index words (ended_at row)) && is_row)
-    && (within 1 own.snapshot (slice_index words (born_at row)) && is_row
-    || within (slice_index words high_at) own.rows row)
+-- What a transaction with this object wrote: the rows that the entries of the object name, as created and as ended.
+abbrev pub writes_in : List ℕ → ℕ → WriteSet
+writes_in words object = record {
+  created = map (created_row words) (rows_where ((view_of words).creates object 0));
+  ended = map key_of (rows_where ((view_of words).ends object 0));
+}
 
--- so many rows from this one on
-abbrev pub rows_from : List ℕ → ℕ → ℕ → List CreatedRow
-rows_from words first count = map (created_row words) (range_with_len first count)
+-- A transaction with this object and this snapshot sees the row: one of the commits that it reads or the transaction
+-- itself created it, and none of these ended it.
+abbrev pub is_seen : List ℕ → ℕ → ℕ → ℕ → Bool
+is_seen words object snapshot row =
+    let view = view_of words in
+    within 0 4096 row
+    && (not (within 1 snapshot (slice_index words (ended_at row)) || view.ends object 0 row)
+    && (within 1 snapshot (slice_index words (born_at row)) || view.creates object 0 row))
 
 -- a state of the one table, in which only session 1 may have a transaction open
 abbrev pub state_by : ℕ → List WriteSet → ℕ → Option Transaction → State
@@ -107,12 +112,12 @@ rows_of running = option_map_or (λ own. own.rows) running 0
 abbrev pub snapshot_of : Option Running → ℕ
 snapshot_of running = option_map_or (λ own. own.snapshot) running 0
 
--- the open transaction: it reads the commits up to its snapshot, and its rows stand behind those of all commits
+-- the open transaction of session 1: it reads the commits up to its snapshot, and wrote what its object says
 abbrev pub transaction_in : List ℕ → Running → Transaction
 transaction_in words own = record {
   number = own.number;
   snapshot = own.snapshot;
-  writes = record { created = rows_from words (slice_index words high_at) own.rows; ended = [] };
+  writes = writes_in words (own_object 1);
 }
 
 -- The table state that the words stand for where session 1 has this transaction open, or none.

@@ -6,6 +6,8 @@ ghost use Rattle.engine_core.specs.Decided.{IsClosed, IsDecision, MayWantMemory}
 ghost use Rattle.engine_core.specs.LogicalState.{is_seen as sees, within};
 ghost use Rattle.engine_core.specs.Served.{get_of, insert_of, is_served};
 ghost use Rattle.engine_core.specs.StageRules.{IsStage};
+ghost use Rattle.stage_view.specs.StageView.{view_of};
+ghost use Rattle.txn_object.specs.Object.{own_object};
 
 use crate::layout::{STAGE_ROWS, born, ended, high, integer, key_word, value};
 use crate::plans::{plan_close, plan_commit, plan_insert};
@@ -269,15 +271,24 @@ fn one_value(alloc: Global, number: i64) -> Result<Values, NoMemory>
 
 // Whether the open transaction sees a row.
 fn is_seen<M: Memory>(memory: &M, own: Running, row: u32) -> bool
-    requires size { 32768 ≤ length (M.device memory.now).cached }
+    requires stage { IsStage (M.device memory.now).cached (Some own) }
     requires row { row < 4096 }
-    ensures { result ≡ sees (M.device memory.now).cached own row }
+    ensures { result ≡ sees (M.device memory.now).cached (own_object 1) own.snapshot row }
+{
+    let is_ended = is_read(memory.load(ended(row)), own.snapshot);
+    let is_born = is_read(memory.load(born(row)), own.snapshot);
+    let is_own = is_among(memory, own, row);
+    !is_ended && (is_born || is_own)
+}
+
+// Whether the entries of the open transaction's object name a row as created: they name those behind the used up ones.
+fn is_among<M: Memory>(memory: &M, own: Running, row: u32) -> bool
+    requires { IsStage (M.device memory.now).cached (Some own) }
+    ensures { result ≡ (view_of (M.device memory.now).cached).creates (own_object 1) 0 row }
 {
     let first = memory.load(high());
-    let is_ended = is_read(memory.load(ended(row)), own.snapshot);
-    let is_committed = is_read(memory.load(born(row)), own.snapshot);
     let row = u64::from(row);
-    !is_ended && (is_committed || first <= row && row - first < u64::from(own.rows))
+    first <= row && row - first < u64::from(own.rows)
 }
 
 // Whether a stamp is the number of a commit that a transaction with this snapshot reads.

@@ -41,11 +41,11 @@ returns-clause-decided g c =
 
 pub returns-then-own-eq0-clause-memory : goal.returns-then-own-eq0-clause-memory
 returns-then-own-eq0-clause-memory g c =
-    anyhow c.close.result (close-takes (g.M.Memory.device c.args.memory.now).cached c.args.begun c.args.own c.if-own-eq0.true)
+    anyhow c.close.result (close-takes (g.M.Memory.device c.args.memory.now).cached c.args.begun c.args.own c.requires c.if-own-eq0.true)
 
 pub returns-in_err-made-clause-memory : goal.returns-in_err-made-clause-memory
 returns-in_err-made-clause-memory g c =
     let words = (g.M.Memory.device c.args.memory.now).cached in
     let is_last : c.load-last.result ≡ get_or words last_at 0 = c.load-last.ensures ∙ ap (λ (k : ℕ). get_or words k 0) c.last_commit.ensures in
     anyhow c.from_residual.result
-    (commit-takes words c.args.begun c.args.own (omega (arith, c.if-own-eq0.false)) (omega (arith, is_last, c.if-last-ge-MAX_COMMITS.false)))
+    (commit-takes words c.args.begun c.args.own c.requires (omega (arith, c.if-own-eq0.false)) (omega (arith, is_last, c.if-last-ge-MAX_COMMITS.false)))

@@ -19,8 +19,8 @@ use Rattle.engine_core.proofs.decision.get.Goals.{then-row-ge-STAGE_ROWS-via-the
 pub returns-then-row-ge-STAGE_ROWS-clause-decided : goal.returns-then-row-ge-STAGE_ROWS-clause-decided
 returns-then-row-ge-STAGE_ROWS-clause-decided g c =
     let words = (g.M.Memory.device c.args.memory.now).cached in
-    let unseen : is_seen words c.args.own c.args.row ≡ false = elim c.then-row-ge-STAGE_ROWS.branch [
-      | then-row-ge-STAGE_ROWS-via-then-row-ge-STAGE_ROWS w ↦ unseen-past words c.args.own c.args.row c.requires w.if-row-ge-STAGE_ROWS.true
+    let unseen : is_seen words 0 c.args.own.snapshot c.args.row ≡ false = elim c.then-row-ge-STAGE_ROWS.branch [
+      | then-row-ge-STAGE_ROWS-via-then-row-ge-STAGE_ROWS w ↦ unseen-past words 0 c.args.own.snapshot c.args.row w.if-row-ge-STAGE_ROWS.true
       | then-row-ge-STAGE_ROWS-via-else-row-ge-STAGE_ROWS+then-not-is_seen w ↦ sym w.is_seen.ensures ∙ w.if-not-is_seen.true
     ] in
     stands words _ (get_of c.args.row) reply.NoRow c.stand.result c.stand.ensures (get-unseen words c.args.begun c.args.own c.args.row c.requires unseen) tt tt
@@ -29,7 +29,7 @@ pub returns-clause-decided : goal.returns-clause-decided
 returns-clause-decided g c =
     let words = (g.M.Memory.device c.args.memory.now).cached in
     let before : Transactions = record { begun = c.args.begun; running = Some c.args.own } in
-    let seen : is_seen words c.args.own c.args.row ≡ true = sym c.is_seen.ensures ∙ c.if-not-is_seen.false in
+    let seen : is_seen words 0 c.args.own.snapshot c.args.row ≡ true = sym c.is_seen.ensures ∙ c.if-not-is_seen.false in
     let word : c.load.result ≡ get_or words (value_at c.args.row) 0 = c.load.ensures ∙ ap (λ (k : ℕ). get_or words k 0) c.value.ensures in
     let fits : SFits w64 c.integer.result = search rules in
     let values : c.in_ok-values.values ≡ Int (integer_of (get_or words (value_at c.args.row) 0)) ∷ [] =

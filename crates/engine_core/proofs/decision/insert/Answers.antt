@@ -43,4 +43,4 @@ returns-in_err-plan-clause-memory g c =
     let words = (g.M.Memory.device c.args.memory.now).cached in
     let is_high : c.load.result ≡ get_or words high_at 0 = c.load.ensures ∙ ap (λ (k : ℕ). get_or words k 0) c.high.ensures in
     anyhow c.from_residual.result
-    (insert-takes words c.args.begun c.args.own.number c.args.own.snapshot c.args.own.rows c.args.number (omega (arith, c.from.ensures, c.if-own-from.false)) (omega (arith, is_high, c.if-row-ge-STAGE_ROWS.false)))
+    (insert-takes words c.args.begun c.args.own.number c.args.own.snapshot c.args.own.rows c.args.number c.requires (omega (arith, c.from.ensures, c.if-own-from.false)) (omega (arith, is_high, c.if-row-ge-STAGE_ROWS.false)))
