@@ -9,3 +9,4 @@ mod StageTransaction
 mod FirstText
 mod SplitLogs
 mod HeldPage
+mod Beginning

@@ -8,8 +8,9 @@ ghost use Rattle.stage_object.specs.Shown.{HasObject, MayAddEntry, NoEntryFollow
 ghost use Rattle.law_instances.specs.OneTransaction.{IsFresh, begun_words, one_retired};
 ghost use Rattle.law_instances.specs.StageTransaction.{staged_words, unstaged_words};
 
-/// One transaction with one entry, in any object of a stage image: what the laws of a begin, of an entry and of a retire
-/// ask is met, each over the words that the plan before it leaves, and the next transaction may have its first entry.
+/// One transaction with one entry, in any object of a stage image: what the laws of a begin, of an entry and of a
+/// retire ask is met, each over the words that the plan before it leaves, and the next transaction may have its first
+/// entry.
 pub fn stage_transaction_law()
     ensures begins { (segments object : ℕ) → IsFresh segments object →
         HasObject (fresh_words segments) object × Shows (fresh_words segments) object no_transaction }
