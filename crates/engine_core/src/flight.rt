@@ -60,7 +60,7 @@ pub(crate) fn actions_left(plan: &Option<Plan>) -> u32
 }
 
 /// Puts a call into the history, with the reply that it will be given.
-pub(crate) fn push_entry(history: &mut Vec<Entry>, said: Call, reply: Reply)
+pub(crate) fn push_call(history: &mut Vec<Entry>, said: Call, reply: Reply)
     requires room { vec_len history.old < vec_capacity history.old }
     requires small { vec_len history.old < 2 ^ 32 - 1 }
     ensures items { history.new.items ≡ history.old.items ++ unanswered (vec_len history.old + 1) said reply ∷ [] }
@@ -93,7 +93,7 @@ pub(crate) fn place_commit(
         let number = *number;
         if *late == left {
             transactions.running = None;
-            push_entry(history, Call::Commit, Reply::Committed { number });
+            push_call(history, Call::Commit, Reply::Committed { number });
             put_flight(flight, Flight::Placed(Reply::Committed { number }));
         }
     }
@@ -123,7 +123,7 @@ pub(crate) fn enter(
             }
         }
         None => {
-            push_entry(history, said, reply);
+            push_call(history, said, reply);
             Flight::Placed(copy)
         }
     }

@@ -115,6 +115,7 @@ fn plan_last<M: Memory>(alloc: Global, memory: &M) -> Result<Plan, NoMemory>
     ensures { IfOk result (λ plan. plan.left ≡ mended_plan (last_mending) (M.device memory.now).cached) }
 {
     let mut part = Vec::with_capacity(alloc, PART_STORES)?;
+    // The last number rises before an object is closed: a closed object's commit word counts no longer.
     part.push_reserved(Action::Store {
         place: last_commit(),
         value: count_commits(memory),
@@ -190,6 +191,7 @@ fn push_idle(plan: &mut Plan, object: u8)
     requires room { 3 ≤ plan.old.spare }
     ensures { plan.new.left ≡ plan.old.left ++ part_actions (one_store (state_at object) 0) }
 {
+    // Once this is durable the object has no transaction: its stamps were taken back, or its commit is kept, before.
     plan.push(Action::Store {
         place: object_state(object),
         value: 0,
