@@ -128,7 +128,7 @@ along_all words leaves k found over so_far = so_far ∙ ap (flat_map (used_in wo
 -- ── the columns with their lists ──
 
 -- a rule that is kept column by column is kept at each of them
-column_kept : (checks : ℕ → List Check) (columns : List ℕ) (i : ℕ) → i < length columns → first_failing (flat_map checks columns) ≡ None → first_failing (checks (get_or columns i 0)) ≡ None
+pub column_kept : (checks : ℕ → List Check) (columns : List ℕ) (i : ℕ) → i < length columns → first_failing (flat_map checks columns) ≡ None → first_failing (checks (get_or columns i 0)) ≡ None
 column_kept checks [] i lt none = absurd (omega (arith, lt))
 column_kept checks (column ∷ columns) zero lt none = (none-append (checks column) (flat_map checks columns) none).0
 column_kept checks (column ∷ columns) (suc i) lt none = column_kept checks columns i (omega (arith, lt)) (none-append (checks column) (flat_map checks columns) none).1

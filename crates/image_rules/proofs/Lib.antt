@@ -1,4 +1,5 @@
 pub mod ArrayChecks
+pub mod ArrayWords
 pub mod BlockSizes
 pub mod BuiltOwners
 pub mod Chains

@@ -6,17 +6,19 @@ use Rattle.std.specs.Ordering.{nat_cmp}
 use Rattle.std.specs.BTreeSet.{BTreeSet, IsEmpty, Updates, contains}
 use Rattle.std.specs.List.{flat_map, list_all, list_any, range_with_len}
 use Rattle.std.proofs.lemmas.Bool.{cases_lt, cond-true, cond-false, and_from, and_left, and_right, lt-ltb, le-ltb, not_from_false}
-use Rattle.std.proofs.lemmas.List.{drop_more, drop_all}
+use Rattle.std.proofs.lemmas.List.{drop_more, drop_all, map-append}
 use Rattle.std.proofs.lemmas.List.Folds.{list_all-append}
-use Rattle.image_layout.specs.Records.{code_at, key_at}
-use Rattle.image_layout.specs.Trees.{key_below, leaf_slots}
+use Rattle.image_layout.specs.Records.{code_at, dictionary_header, key_at}
+use Rattle.image_layout.specs.Arrays.{capacity}
+use Rattle.image_layout.specs.Trees.{dictionary_length, dictionary_word, key_below, leaf_list, leaf_slots}
 use Rattle.image_layout.specs.Checks.{Check, check, first_failing}
 use Rattle.image_layout.specs.EntryRules.{is_among}
-use Rattle.image_layout.specs.SoundRules.{leaf_keys, order_checks, slot_order_checks}
+use Rattle.image_layout.specs.SoundRules.{UsedSlot, code_checks, column_slots, is_code_of, leaf_keys, order_checks, slot_order_checks}
 use Rattle.image_layout.proofs.Faults.{fails, pass-all, passes}
 use Rattle.image_rules.specs.declared.leaf_lists.LeafSlot.{LeafSlot}
+use Rattle.image_rules.specs.ArrayWords.{is_word_at}
 use Rattle.image_rules.specs.BuiltOwners.{HasWords}
-use Rattle.image_rules.specs.BuiltTrees.{code_place_checks, has_key, is_above, is_used, leaf_order_checks}
+use Rattle.image_rules.specs.BuiltTrees.{has_key, is_above, is_used, leaf_order_checks, leaf_slot, places_of, used_along, used_in}
 use Rattle.image_rules.specs.Parts.{before_of}
 use Rattle.image_rules.proofs.Firsts.{first_of, found_none}
 use Rattle.image_rules.proofs.OwnerChecks.{held_front, held_none}
@@ -202,51 +204,89 @@ module _ (words : List ℕ) where
 
   -- ── codes ──
 
-  abbrev code_place : LeafSlot → ℕ
-  code_place used = code_at used.leaf used.slot
+  module _ (column : ℕ) (used : List LeafSlot) where
+    abbrev codes_from : List ℕ → ℕ → List Check
+    codes_from before i = code_checks words column before (map places_of (drop i used))
 
-  abbrev codes_from : List LeafSlot → List ℕ → ℕ → List Check
-  codes_from used before i = code_place_checks words (length used) before (map (λ (s : LeafSlot). code_at s.leaf s.slot) (drop i used))
+    -- the codes before an index are in the set, and what is left of the column's checks with them
+    pub record CodesSoFar (i : ℕ) (seen : BTreeSet ℕ) : Type 0 where
+      pub before : List ℕ
+      pub held : HasWords seen before
+      pub left : first_failing (code_checks words column before (map places_of (drop i used))) ≡ first_failing (code_checks words column [] (map places_of used))
 
-  -- the codes before an index are in the set, and what is left of the column's checks with them
-  pub record CodesSoFar (used : List LeafSlot) (i : ℕ) (seen : BTreeSet ℕ) : Type 0 where
-    pub before : List ℕ
-    pub held : HasWords seen before
-    pub left : first_failing (code_place_checks words (length used) before (map (λ (s : LeafSlot). code_at s.leaf s.slot) (drop i used)))
-        ≡ first_failing (code_place_checks words (length used) [] (map (λ (s : LeafSlot). code_at s.leaf s.slot) used))
+    pub codes_begin : (seen : BTreeSet ℕ) → IsEmpty seen → CodesSoFar 0 seen
+    codes_begin seen empty = record { before = []; held = held_none seen empty; left = refl }
 
-  pub codes_begin : (used : List LeafSlot) (seen : BTreeSet ℕ) → IsEmpty seen → CodesSoFar used 0 seen
-  codes_begin used seen empty = record { before = []; held = held_none seen empty; left = refl }
+    module _ (i key code : ℕ) (d : LeafSlot) (seen : BTreeSet ℕ) (lt : i < length used) (told : CodesSoFar i seen) (key-at : key ≡ key_at (get_or used i d).leaf (get_or used i d).slot) (code-at : code ≡ code_at (get_or used i d).leaf (get_or used i d).slot) where
+      abbrev key_word : ℕ
+      key_word = get_or words key 0
 
-  module _ (used : List LeafSlot) (i place : ℕ) (d : LeafSlot) (seen : BTreeSet ℕ) (lt : i < length used) (told : CodesSoFar used i seen) (at : place ≡ code_at (get_or used i d).leaf (get_or used i d).slot) where
-    abbrev code : ℕ
-    code = get_or words place 0
+      abbrev code_word : ℕ
+      code_word = get_or words code 0
 
-    abbrev code_check : Check
-    code_check = check place (ltb (get_or words place 0) (length used) && not (is_among told.before (get_or words place 0)))
+      abbrev is_code : Bool
+      is_code = is_code_of words column (get_or words key 0) (get_or words code 0)
 
-    codes-is : first_failing (code_check ∷ codes_from used (code ∷ told.before) (i + 1)) ≡ first_failing (code_place_checks words (length used) [] (map (λ (s : LeafSlot). code_at s.leaf s.slot) used))
-    codes-is =
-        ap (λ (p : ℕ). first_failing (check p (ltb (get_or words p 0) (length used) && not (is_among told.before (get_or words p 0))) ∷ codes_from used (get_or words p 0 ∷ told.before) (i + 1))) at
-        ∙ sym (ap (λ (s : List LeafSlot). first_failing (code_place_checks words (length used) told.before (map (λ (s : LeafSlot). code_at s.leaf s.slot) s))) (drop_more used i d lt))
-        ∙ told.left
+      abbrev code_check : Check
+      code_check = check code (is_code_of words column (get_or words key 0) (get_or words code 0) && not (is_among told.before (get_or words code 0)))
 
-    pub code_over : length used ≤ code → Some place ≡ first_failing (code_place_checks words (length used) [] (map (λ (s : LeafSlot). code_at s.leaf s.slot) used))
-    code_over over = sym (fails code_check (codes_from used (code ∷ told.before) (i + 1)) (and_left (ltb code (length used)) (not (is_among told.before code)) (le-ltb code (length used) over))) ∙ codes-is
+      codes-is : first_failing (check code (is_code_of words column (get_or words key 0) (get_or words code 0) && not (is_among told.before (get_or words code 0))) ∷ code_checks words column (get_or words code 0 ∷ told.before) (map places_of (drop (i + 1) used)))
+          ≡ first_failing (code_checks words column [] (map places_of used))
+      codes-is =
+          ap (λ (p : ℕ). first_failing (check code (is_code_of words column (get_or words p 0) code_word && not (is_among told.before code_word)) ∷ codes_from (code_word ∷ told.before) (i + 1))) key-at
+          ∙ ap (λ (p : ℕ). first_failing (check p (is_code_of words column (get_or words (key_at (get_or used i d).leaf (get_or used i d).slot) 0) (get_or words p 0) && not (is_among told.before (get_or words p 0))) ∷ codes_from (get_or words p 0 ∷ told.before) (i + 1))) code-at
+          ∙ sym (ap (λ (s : List LeafSlot). first_failing (code_checks words column told.before (map places_of s))) (drop_more used i d lt))
+          ∙ told.left
 
-    module _ (is_first : Bool) (first_is : is_first ≡ not (contains nat_cmp seen (get_or words place 0))) where
-      first_told : is_first ≡ not (is_among told.before code)
-      first_told = first_is ∙ ap not (told.held.each code)
+      pub code_none : is_code_of words column (get_or words key 0) (get_or words code 0) ≡ false → Some code ≡ first_failing (code_checks words column [] (map places_of used))
+      code_none none = sym (fails code_check (codes_from (code_word ∷ told.before) (i + 1)) (and_left is_code (not (is_among told.before code_word)) none)) ∙ codes-is
 
-      pub code_again : is_first ≡ false → Some place ≡ first_failing (code_place_checks words (length used) [] (map (λ (s : LeafSlot). code_at s.leaf s.slot) used))
-      code_again again = sym (fails code_check (codes_from used (code ∷ told.before) (i + 1)) (and_right (ltb code (length used)) (not (is_among told.before code)) (sym first_told ∙ again))) ∙ codes-is
+      module _ (is_first : Bool) (first_is : is_first ≡ not (contains nat_cmp seen (get_or words code 0))) where
+        first_told : is_first ≡ not (is_among told.before code_word)
+        first_told = first_is ∙ ap not (told.held.each code_word)
 
-      pub code_next : code < length used → is_first ≡ true → (next : BTreeSet ℕ) → Updates nat_cmp seen next (get_or words place 0) true → CodesSoFar used (i + 1) next
-      code_next under new next updates = record {
-        before = code ∷ told.before;
-        held = held_front seen next code updates told.before told.held;
-        left = sym (passes code_check (codes_from used (code ∷ told.before) (i + 1)) (and_from (ltb code (length used)) (not (is_among told.before code)) (lt-ltb code (length used) under) (sym first_told ∙ new))) ∙ codes-is;
-      }
+        pub code_again : is_first ≡ false → Some code ≡ first_failing (code_checks words column [] (map places_of used))
+        code_again again = sym (fails code_check (codes_from (code_word ∷ told.before) (i + 1)) (and_right is_code (not (is_among told.before code_word)) (sym first_told ∙ again))) ∙ codes-is
 
-  pub codes_end : (used : List LeafSlot) (i : ℕ) (seen : BTreeSet ℕ) → length used ≤ i → CodesSoFar used i seen → None ≡ first_failing (code_place_checks words (length used) [] (map (λ (s : LeafSlot). code_at s.leaf s.slot) used))
-  codes_end used i seen le told = sym (ap (λ (ss : List LeafSlot). first_failing (code_place_checks words (length used) told.before (map (λ (s : LeafSlot). code_at s.leaf s.slot) ss))) (drop_all i used le)) ∙ told.left
+        pub code_next : is_code_of words column (get_or words key 0) (get_or words code 0) ≡ true → is_first ≡ true → (next : BTreeSet ℕ) → Updates nat_cmp seen next (get_or words code 0) true → CodesSoFar (i + 1) next
+        code_next hit new next updates = record {
+          before = code_word ∷ told.before;
+          held = held_front seen next code_word updates told.before told.held;
+          left = sym (passes code_check (codes_from (code_word ∷ told.before) (i + 1)) (and_from is_code (not (is_among told.before code_word)) hit (sym first_told ∙ new))) ∙ codes-is;
+        }
+
+    pub codes_end : (i : ℕ) (seen : BTreeSet ℕ) → length used ≤ i → CodesSoFar i seen → None ≡ first_failing (code_checks words column [] (map places_of used))
+    codes_end i seen le told = sym (ap (λ (ss : List LeafSlot). first_failing (code_checks words column told.before (map places_of ss))) (drop_all i used le)) ∙ told.left
+
+  -- ── whether a code is that of a key word ──
+
+  module _ (column count code key : ℕ) (is : count ≡ dictionary_length words column) where
+    code-is : is_code_of words column key code ≡ (ltb code (dictionary_length words column) && is_word_at words column code key)
+    code-is = regroup (ltb code (dictionary_length words column)) (ltb code (capacity words (dictionary_header column))) (eqb (dictionary_word words column code) key)
+      where
+        regroup : (a b c : Bool) → (a && b && c) ≡ (a && (b && c))
+        regroup true b c = refl
+        regroup false b c = refl
+
+    pub code_under : code < count → is_word_at words column code key ≡ is_code_of words column key code
+    code_under lt = ap (λ (b : Bool). b && is_word_at words column code key) (sym (lt-ltb code (dictionary_length words column) (omega (arith, lt, is)))) ∙ sym code-is
+
+    pub code_over : count ≤ code → ltb code count ≡ is_code_of words column key code
+    code_over le = le-ltb code count le ∙ sym (code-is ∙ and_left (ltb code (dictionary_length words column)) (is_word_at words column code key) (le-ltb code (dictionary_length words column) (omega (arith, le, is))))
+
+  -- ── the used slots of a column ──
+
+  slots-leaf : (leaf : ℕ) (slots : List ℕ) → map (λ slot. record { key = key_at leaf slot; code = code_at leaf slot }) slots ≡ map places_of (map (leaf_slot leaf) slots)
+  slots-leaf _ [] = refl
+  slots-leaf leaf (slot ∷ slots) = ap (λ (ss : List UsedSlot). record { key = key_at leaf slot; code = code_at leaf slot } ∷ ss) (slots-leaf leaf slots)
+
+  slots-along : (leaves : List ℕ) → flat_map (λ leaf. map (λ slot. record { key = key_at leaf slot; code = code_at leaf slot }) (leaf_slots words leaf)) leaves ≡ map places_of (used_along words leaves)
+  slots-along [] = refl
+  slots-along (leaf ∷ leaves) =
+      ap (λ (ss : List UsedSlot). ss ++ flat_map (λ leaf. map (λ slot. record { key = key_at leaf slot; code = code_at leaf slot }) (leaf_slots words leaf)) leaves) (slots-leaf leaf (leaf_slots words leaf))
+      ∙ ap (λ (ss : List UsedSlot). map places_of (used_in words leaf) ++ ss) (slots-along leaves)
+      ∙ sym (map-append places_of (used_in words leaf) (used_along words leaves))
+
+  pub column-slots-is : (column : ℕ) → column_slots words column ≡ map places_of (used_along words (leaf_list words column))
+  unfolding column_slots
+  column-slots-is column = slots-along (leaf_list words column)

@@ -97,10 +97,10 @@ module _ (words : List ℕ) where
   -- ── one row ──
 
   -- where a row's word of an array stands, if it is published
-  abbrev row_place : ℕ → ℕ → Option ℕ
+  abbrev pub row_place : ℕ → ℕ → Option ℕ
   row_place header row = cond (ltb row (capacity words header)) (Some (place_of words header row)) None
 
-  in_chunk : (header chunk offset : ℕ) → chunk < 12 → offset < chunk_words chunk → row_place header (capacity_of chunk + offset) ≡ option_map (λ first. first + offset) (chunk_place words header chunk)
+  pub in_chunk : (header chunk offset : ℕ) → chunk < 12 → offset < chunk_words chunk → row_place header (capacity_of chunk + offset) ≡ option_map (λ first. first + offset) (chunk_place words header chunk)
   in_chunk header chunk offset lt inside = at_row (capacity_of chunk + offset) refl
     where
       at_row : (row : ℕ) → row ≡ capacity_of chunk + offset → row_place header row ≡ option_map (λ first. first + offset) (chunk_place words header chunk)

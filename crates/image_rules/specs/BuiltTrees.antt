@@ -1,15 +1,15 @@
 -- The rules of the pairs in the leaves of trees, as far as they stand: the order of keys and their fingerprints in
--- columns of integers, and codes without the dictionary's slots. Texts and dictionaries join them later.
+-- columns of integers. Texts join them later.
 use Rattle.std.specs.Prelude.{◌≡◌, ℕ, ◌+◌, ◌≤◌, Bool, true, not, ◌&&◌, ◌==◌, false, nat_lt, if◌then◌else◌, Option, None, Some, List, [], ◌∷◌, length, map, slice_index}
 use Rattle.std.specs.List.{flat_map, list_all}
 use Rattle.std.specs.Int.{bit_at}
 use Rattle.image_layout.specs.Places.{is_null_or_pointer_to}
 use Rattle.image_layout.specs.Records.{code_at, fingerprint_at, first_leaf_at, key_at}
 use Rattle.image_layout.specs.Tables.{all_columns, is_text}
-use Rattle.image_layout.specs.Trees.{dictionary_length, integer_fingerprint, leaf_list, leaf_slots, slot_fingerprint, stored_leaves}
+use Rattle.image_layout.specs.Trees.{integer_fingerprint, leaf_list, leaf_slots, slot_fingerprint, stored_leaves}
 use Rattle.image_layout.specs.Checks.{Check, Rule, check, first_failing}
-use Rattle.image_layout.specs.EntryRules.{is_among, leaf_checks}
-use Rattle.image_layout.specs.SoundRules.{fingerprint_checks, order_checks}
+use Rattle.image_layout.specs.EntryRules.{leaf_checks}
+use Rattle.image_layout.specs.SoundRules.{UsedSlot, code_checks, column_slots, fingerprint_checks, order_checks}
 use Rattle.image_rules.specs.declared.leaf_lists.LeafSlot.{LeafSlot}
 
 -- ── the rules ──
@@ -33,13 +33,6 @@ column_print_checks words column =
 unfoldable pub built_fingerprint_rule : Rule
 built_fingerprint_rule words = flat_map (column_print_checks words) (all_columns words)
 
--- a code is below the number of codes, and differs from those before it
-abbrev pub code_place_checks : List ℕ → ℕ → List ℕ → List ℕ → List Check
-code_place_checks words count before [] = []
-code_place_checks words count before (at ∷ places) =
-    check at (nat_lt (slice_index words at) count && not (is_among before (slice_index words at)))
-    ∷ code_place_checks words count (slice_index words at ∷ before) places
-
 -- the used slots along leaves
 abbrev pub leaf_slot : ℕ → ℕ → LeafSlot
 leaf_slot leaf slot = record { leaf = leaf; slot = slot }
@@ -50,18 +43,9 @@ used_in words leaf = map (leaf_slot leaf) (leaf_slots words leaf)
 abbrev pub used_along : List ℕ → List ℕ → List LeafSlot
 used_along words leaves = flat_map (used_in words) leaves
 
--- the places of the codes along a column's leaves
-abbrev pub code_places : List ℕ → ℕ → List ℕ
-code_places words column =
-    map (λ used. code_at used.leaf used.slot) (used_along words (leaf_list words column))
-
+-- 24, of a column
 abbrev pub column_code_checks : List ℕ → ℕ → List Check
-column_code_checks words column =
-    code_place_checks words (dictionary_length words column) [] (code_places words column)
-
--- 24: the codes of used slots are below their number, and differ
-unfoldable pub built_code_rule : Rule
-built_code_rule words = flat_map (column_code_checks words) (all_columns words)
+column_code_checks words column = code_checks words column [] (column_slots words column)
 
 -- ── their parts ──
 
@@ -98,3 +82,7 @@ abbrev pub print_check : List ℕ → LeafSlot → Check
 print_check words used =
     check (fingerprint_at used.leaf used.slot)
     (slot_fingerprint words used.leaf used.slot == integer_fingerprint (slice_index words (key_at used.leaf used.slot)))
+
+-- a used slot by the places of its key word and of its code
+abbrev pub places_of : LeafSlot → UsedSlot
+places_of used = record { key = key_at used.leaf used.slot; code = code_at used.leaf used.slot }

@@ -21,6 +21,7 @@
 #![tactic(auto)]
 
 mod array_rules;
+mod array_words;
 mod distinct_rules;
 mod entry_rules;
 mod extensions;

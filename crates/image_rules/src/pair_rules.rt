@@ -3,18 +3,20 @@ ghost use Rattle.std.specs.Prelude.{◌≡◌, ℕ, ◌+◌, ◌%◌, ◌<◌, �
 ghost use Rattle.std.specs.List.{list_all, list_any};
 ghost use Rattle.image_layout.specs.Records.{key_at};
 ghost use Rattle.image_layout.specs.Tables as tables;
-ghost use Rattle.image_layout.specs.Trees.{leaf_list, leaf_slots};
+ghost use Rattle.image_layout.specs.Trees.{dictionary_length, leaf_list, leaf_slots};
 ghost use Rattle.image_layout.specs.Checks.{Keeps, first_failing};
-ghost use Rattle.image_layout.specs.EntryRules.{table_count_rule, table_slot_rule, tree_rule};
-ghost use Rattle.image_layout.specs.SoundRules.{fingerprint_checks, leaf_keys, order_checks, split_log_rule};
-ghost use Rattle.image_rules.specs.BuiltTrees.{HasList, built_code_rule, built_fingerprint_rule, built_order_rule, column_code_checks, column_order_checks, column_print_checks, has_key, is_above as key_is_above, leaf_order_checks};
+ghost use Rattle.image_layout.specs.EntryRules.{arrays_rule, table_count_rule, table_slot_rule, tree_rule};
+ghost use Rattle.image_layout.specs.SoundRules.{code_rule, is_code_of as code_is_of, fingerprint_checks, leaf_keys, order_checks, split_log_rule};
+ghost use Rattle.image_rules.specs.ArrayWords.{HasArrays, is_word_at as key_is_at};
+ghost use Rattle.image_rules.specs.BuiltTrees.{HasList, built_fingerprint_rule, built_order_rule, column_code_checks, column_order_checks, column_print_checks, has_key, is_above as key_is_above, leaf_order_checks};
 ghost use Rattle.image_rules.specs.Parts.{before_of};
 
+use crate::array_words::word_place;
 use crate::layout::LEAF_SLOTS;
 use crate::leaf_lists::{all_columns, is_used, leaves_of, used_slots};
 use crate::name_rules::{TEXTS, packed_byte};
 use fp_leaf::int_fingerprint;
-use pm_model::{NoMemory, Place, column_kind};
+use pm_model::{NoMemory, Place, column_kind, dictionary_header};
 use std::alloc::Global;
 use std::collections::BTreeSet;
 
@@ -184,17 +186,18 @@ fn column_print_fault(alloc: Global, words: &[u64], column: u32) -> Result<Optio
     Ok(None)
 }
 
-/// The first code of a used slot that isn't below the number of used slots of its column, or that stands in an earlier
-/// one: the place of its word.
+/// The first code of a used slot whose dictionary slot isn't published below the number of the column's values, or
+/// doesn't hold the slot's key word, or that stands in an earlier slot: the place of its word.
 pub fn code_fault(alloc: Global, words: &[u64]) -> Result<Option<u32>, NoMemory>
     requires segments { length words.now % 32768 ≡ 0 }
     requires one_or_more { 32768 ≤ length words.now }
     requires most { length words.now ≤ 4194304 }
     requires tables { Keeps words.now table_count_rule }
     requires slots { Keeps words.now table_slot_rule }
+    requires arrays { Keeps words.now arrays_rule }
     requires trees { Keeps words.now tree_rule }
     requires logs { Keeps words.now split_log_rule }
-    ensures { IfOk result (λ fault. fault ≡ first_failing (built_code_rule words.now)) }
+    ensures { IfOk result (λ fault. fault ≡ first_failing (code_rule words.now)) }
 {
     let columns = all_columns(alloc, words)?;
     for column in &columns {
@@ -210,21 +213,51 @@ fn column_code_fault(alloc: Global, words: &[u64], column: u32) -> Result<Option
     requires segments { length words.now % 32768 ≡ 0 }
     requires most { length words.now ≤ 4194304 }
     requires list { HasList words.now column }
+    requires arrays { HasArrays words.now column }
     ensures { IfOk result (λ fault. fault ≡ first_failing (column_code_checks words.now column)) }
 {
     let used = used_slots(alloc, words, column)?;
     let count = used.len() as u64;
     let mut seen = BTreeSet::new(alloc);
     for slot in &used {
-        let place = key_place(slot.leaf, slot.slot) + 1;
-        let code = words[place as usize];
-        if code >= count {
-            return Ok(Some(place));
+        let place = key_place(slot.leaf, slot.slot);
+        let code = words[place as usize + 1];
+        if !is_code_of(words, column, count, words[place as usize], code) {
+            return Ok(Some(place + 1));
         }
         let is_first = seen.insert(code)?;
         if !is_first {
-            return Ok(Some(place));
+            return Ok(Some(place + 1));
         }
     }
     Ok(None)
+}
+
+// Whether a code is below the number of a column's values, and a key word stands in its dictionary slot.
+fn is_code_of(words: &[u64], column: u32, count: u64, key: u64, code: u64) -> bool
+    requires segments { length words.now % 32768 ≡ 0 }
+    requires most { length words.now ≤ 4194304 }
+    requires within { column + 40 ≤ length words.now }
+    requires arrays { HasArrays words.now column }
+    requires count { count ≡ dictionary_length words.now column }
+    ensures { result ≡ code_is_of words.now column key code }
+{
+    code < count && is_word_at(words, column, code, key)
+}
+
+// Whether a key word stands in the published dictionary slot of a code.
+fn is_word_at(words: &[u64], column: u32, code: u64, key: u64) -> bool
+    requires segments { length words.now % 32768 ≡ 0 }
+    requires most { length words.now ≤ 4194304 }
+    requires within { column + 40 ≤ length words.now }
+    requires arrays { HasArrays words.now column }
+    ensures { result ≡ key_is_at words.now column code key }
+{
+    if code > u64::from(u32::MAX) {
+        return false;
+    }
+    match word_place(words, dictionary_header(Place(column)), code as u32) {
+        Some(place) => words[place as usize] == key,
+        None => false,
+    }
 }

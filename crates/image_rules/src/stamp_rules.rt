@@ -1,22 +1,21 @@
 // The rule of stamps.
-ghost use Rattle.std.specs.Prelude.{◌≡◌, ℕ, ◌+◌, ◌%◌, ◌^◌, ◌<◌, ◌≤◌, max, Option, None, Some, IfSome, option_map, length, slice_index, nat_le};
+ghost use Rattle.std.specs.Prelude.{◌≡◌, ℕ, ◌+◌, ◌%◌, ◌<◌, ◌≤◌, max, Option, None, Some, IfSome, length, slice_index, nat_le};
 ghost use Rattle.std.specs.List.{flat_map, list_all, range_with_len};
-ghost use Rattle.image_layout.specs.Arrays.{array_rule, capacity as capacity_at, capacity_of, chunk_words as words_of_chunk};
+ghost use Rattle.image_layout.specs.Arrays.{capacity as capacity_at, capacity_of, chunk_words as words_of_chunk};
 ghost use Rattle.image_layout.specs.Records.{created_header as created_at, ended_header as ended_at, high_at};
 ghost use Rattle.image_layout.specs.Checks.{Keeps, first_failing};
 ghost use Rattle.image_layout.specs.EntryRules.{arrays_rule, table_count_rule, table_slot_rule};
 ghost use Rattle.image_layout.specs.SoundRules.{is_commit as commit_holds, is_created as created_holds, is_ended as ended_holds, is_row_bound, row_checks, stamp_checks, stamp_rule};
 ghost use Rattle.image_rules.specs.Parts.{IsTableBlock, table_arrays_rule};
-ghost use Rattle.image_rules.specs.Stamps.{chunk_place, place_checks, stamp_of};
+ghost use Rattle.image_rules.specs.Stamps.{place_checks, stamp_of};
 
 use crate::array_rules::capacity;
+use crate::array_words::{place_in_chunk, published_chunk};
 use crate::extensions::column_record;
-use crate::pointers::pointed_words;
 use crate::table_rules::{columns_of, published_tables, table_block};
 use image_layout::since;
 use pm_model::{
-    NO_COMMIT, Place, chunk_capacity, chunk_pointer, chunk_words, created_header, ended_header,
-    high, last_commit,
+    NO_COMMIT, Place, chunk_capacity, chunk_words, created_header, ended_header, high, last_commit,
 };
 
 /// The first word that breaks the rule of stamps: a table's bound on its rows with stamps, where an array of stamps has
@@ -115,34 +114,6 @@ fn chunk_stamp_fault(words: &[u64], block: Place, chunk: u32) -> Option<u32>
         }
     }
     None
-}
-
-// Where a chunk of an array begins, if it is published.
-fn published_chunk(words: &[u64], header: Place, chunk: u32) -> Option<u32>
-    requires segments { length words.now % 32768 ≡ 0 }
-    requires most { length words.now ≤ 4194304 }
-    requires within { header.0 + 16 ≤ length words.now }
-    requires rule { Keeps words.now (array_rule header.0) }
-    requires chunk { chunk < 12 }
-    ensures place { result ≡ chunk_place words.now header.0 chunk }
-    ensures within { IfSome result (λ first. first + words_of_chunk chunk ≤ length words.now) }
-{
-    if u64::from(chunk) >= words[header.0 as usize] {
-        return None;
-    }
-    let pointer = words[chunk_pointer(header, chunk).0 as usize];
-    pointed_words(words, pointer, chunk_words(chunk))
-}
-
-// The place of a word of a published chunk.
-fn place_in_chunk(chunk: Option<u32>, offset: u32) -> Option<u32>
-    requires { IfSome chunk (λ first. first + offset < 2 ^ 32) }
-    ensures { result ≡ option_map (λ first. first + offset) chunk }
-{
-    match chunk {
-        Some(first) => Some(first + offset),
-        None => None,
-    }
 }
 
 // The first of a row's two stamps that breaks the rule, by the places of those that are published.

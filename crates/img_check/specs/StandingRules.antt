@@ -1,12 +1,12 @@
 -- The numbered rules of an image at rest, as far as they stand. They are tried in this order.
 use Rattle.std.specs.Prelude.{◌≡◌, ℕ, List, [], ◌∷◌, ◌++◌, None, Some}
 use Rattle.image_layout.specs.Checks.{Numbered, first_fault, numbered}
-use Rattle.image_layout.specs.SoundRules.{idle_rule, split_log_rule, closed_rule, stamp_rule, given_back_rule, distinct_name_rule, latest_version_rule}
+use Rattle.image_layout.specs.SoundRules.{idle_rule, split_log_rule, closed_rule, code_rule, stamp_rule, given_back_rule, distinct_name_rule, latest_version_rule}
 use Rattle.image_rules.specs.NumberedRules.{entry_rules}
 use Rattle.img_check.specs.declared.error.CheckError.{CheckError}
 use Rattle.img_check.specs.declared.error.CheckError.TheVariants.{Unsound, NoMemory as OutOfMemory}
 use Rattle.image_rules.specs.BuiltOwners.{built_owner_rule, built_single_owner_rule, built_owned_rule}
-use Rattle.image_rules.specs.BuiltTrees.{built_code_rule, built_fingerprint_rule, built_order_rule}
+use Rattle.image_rules.specs.BuiltTrees.{built_fingerprint_rule, built_order_rule}
 
 -- nothing is half done
 abbrev pub closing_rules : List Numbered
@@ -20,10 +20,11 @@ rules_without_memory = entry_rules ++ closing_rules
 abbrev pub owner_rules : List Numbered
 owner_rules = numbered 19 built_owner_rule ∷ numbered 20 built_single_owner_rule ∷ numbered 21 built_owned_rule ∷ []
 
--- the pairs in the leaves of trees: the order of their keys, their fingerprints and their codes
+-- the pairs in the leaves of trees: the order of their keys and their fingerprints in columns of integers, and the codes
+-- of all columns
 abbrev pub pair_rules : List Numbered
 pair_rules =
-    numbered 22 built_order_rule ∷ numbered 23 built_fingerprint_rule ∷ numbered 24 built_code_rule ∷ []
+    numbered 22 built_order_rule ∷ numbered 23 built_fingerprint_rule ∷ numbered 24 code_rule ∷ []
 
 -- stamps, pages that were given back, names, and the version
 abbrev pub content_rules : List Numbered

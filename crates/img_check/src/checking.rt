@@ -19,8 +19,8 @@ use std::alloc::Global;
 /// Tries the rules of an image at rest, in the order of their numbers: those of every image that a power cut can leave
 /// (1 to 12, 14 and 15), and then that nothing is half done (16 to 18), that live blocks and the owner words of tables,
 /// arrays, leaves and transaction objects go together one to one (19 to 21), that the keys of columns of integers stand
-/// in order along the leaves of their trees (22) and have their fingerprints (23), that the codes of a column differ
-/// and are below their number (24), that stamps are those of commits and stand below their table's bound, above which
+/// in order along the leaves of their trees (22) and have their fingerprints (23), that the codes of a column differ and
+/// each is that of its key word in the dictionary (24), that stamps are those of commits and stand below their table's bound, above which
 /// no column begins (27), that pages which were given back are 0 (29), that names differ (30) and that the version is 2
 /// (31). An error names the first rule that the words break, and the place where they do.
 ///
@@ -127,6 +127,7 @@ fn pairs_fault(alloc: Global, words: &[u64]) -> Result<Option<RuleFault>, NoMemo
     requires most { length words.now ≤ 4194304 }
     requires tables { Keeps words.now table_count_rule }
     requires slots { Keeps words.now table_slot_rule }
+    requires arrays { Keeps words.now arrays_rule }
     requires trees { Keeps words.now tree_rule }
     requires logs { Keeps words.now split_log_rule }
     ensures { IfOk result (λ found. told found ≡ first_fault pair_rules words.now) }

@@ -219,19 +219,20 @@ fn columns_in_extensions_are_tried(rt: HostRuntime) -> Result<(), Fail> {
 }
 
 // A second leaf behind that of the value 7, with the value 8 and the code 1.
-const NEXT_VALUE: [Change; 6] = [
+const NEXT_VALUE: [Change; 7] = [
     (2048, 7),
     (2185, NEXT_LEAF),
     (2312, 1),
     (2314, 136),
     (2320, (1 << 63) + 8),
     (2321, 1),
+    (4097, (1 << 63) + 8),
 ];
 
 #[test]
 fn pairs_in_leaves_are_tried(rt: HostRuntime) -> Result<(), Fail> {
     let zero = 1 << 63;
-    let cases: [(&[Change], Told); 32] = [
+    let cases: [(&[Change], Told); 39] = [
         (&[], None),
         // The leaves are blocks with one owner, and no split is logged.
         (&[(2048, 5)], Some((19, 2100))),
@@ -243,40 +244,70 @@ fn pairs_in_leaves_are_tried(rt: HostRuntime) -> Result<(), Fail> {
         (&[(2320, zero + 7)], Some((22, 2320))),
         (&[(2320, zero + 6)], Some((22, 2320))),
         (&[(2320, 0)], Some((22, 2320))),
-        (&[(2192, 0), (2186, 0)], None),
+        (&[(2192, 0), (2186, 0), (4096, 0)], None),
         (&[(2312, 3), (2322, zero + 7)], Some((22, 2322))),
         (&[(2312, 3), (2322, zero + 8)], Some((22, 2322))),
         (
-            &[(2312, 3), (2322, zero + 9), (2314, 35208), (2323, 2)],
+            &[
+                (2312, 3),
+                (2322, zero + 9),
+                (2314, 35208),
+                (2323, 2),
+                (4098, zero + 9),
+            ],
             None,
         ),
         // The keys of one leaf stand in any order.
         (
-            &[(2184, 3), (2194, zero + 5), (2186, 34183), (2195, 2)],
+            &[
+                (2184, 3),
+                (2194, zero + 5),
+                (2186, 34183),
+                (2195, 2),
+                (4098, zero + 5),
+            ],
             None,
         ),
         (
             &[(2184, 3), (2194, zero + 9), (2186, 35207), (2195, 2)],
             Some((22, 2320)),
         ),
-        (&[(2184, 0), (2320, 0), (2314, 0), (2321, 0)], None),
+        (
+            &[(2184, 0), (2320, 0), (2314, 0), (2321, 0), (4096, 0)],
+            None,
+        ),
         // The fingerprints of used slots, eight in a word.
         (&[(2186, 134)], Some((23, 2186))),
         (&[(2314, 135)], Some((23, 2314))),
         (&[(2186, 391), (2315, 5)], None),
         (
-            &[(2184, 257), (2208, zero + 5), (2209, 2), (2187, 133)],
+            &[
+                (2184, 257),
+                (2208, zero + 5),
+                (2209, 2),
+                (2187, 133),
+                (4098, zero + 5),
+            ],
             None,
         ),
         (
             &[(2184, 257), (2208, zero + 5), (2209, 2), (2187, 132)],
             Some((23, 2187)),
         ),
-        // Codes go up to their number, and none stands twice.
+        // A code is below the number of values, and its published dictionary slot holds the key word.
         (&[(2321, 0)], Some((24, 2321))),
         (&[(2321, 2)], Some((24, 2321))),
-        (&[(2193, 1)], Some((24, 2321))),
-        (&[(2193, 1), (2321, 0)], None),
+        (&[(2321, 2), (4098, zero + 8)], Some((24, 2321))),
+        (&[(2193, 1)], Some((24, 2193))),
+        (&[(2193, 1), (2321, 0)], Some((24, 2193))),
+        (
+            &[(2193, 1), (2321, 0), (4096, zero + 8), (4097, zero + 7)],
+            None,
+        ),
+        (&[(4096, zero + 8)], Some((24, 2193))),
+        (&[(4097, zero + 9)], Some((24, 2321))),
+        (&[(4098, zero + 9)], None),
+        (&[(2120, 0)], Some((24, 2193))),
         (&[(2193, 2)], Some((24, 2193))),
         (&[(2193, u64::MAX)], Some((24, 2193))),
         // In the order of their numbers.
@@ -284,8 +315,9 @@ fn pairs_in_leaves_are_tried(rt: HostRuntime) -> Result<(), Fail> {
         (&[(2186, 134), (2193, 5)], Some((23, 2186))),
         (&[(2193, 5), (2057, 513)], Some((24, 2193))),
         // In a column of texts the codes alone are tried.
-        (&[(2096, 2), (2186, 134), (2320, 0)], None),
+        (&[(2096, 2), (2186, 134), (2320, 0), (4097, 0)], None),
         (&[(2096, 2), (2193, 5)], Some((24, 2193))),
+        (&[(2096, 2), (2320, zero + 7), (2321, 0)], Some((24, 2321))),
     ];
     for (changes, told) in cases {
         let found = told_of(rt.alloc(), &[&TABLE, &VALUE, &NEXT_VALUE, changes])?;

@@ -1,7 +1,9 @@
 use Rattle.std.proofs.Common.{sym, ◌∙◌, ap, ℕ, List, refl}
 use Rattle.std.specs.List.{flat_map}
 use Rattle.image_layout.specs.Checks.{first_failing}
-use Rattle.image_rules.specs.BuiltTrees.{built_code_rule, column_code_checks}
+use Rattle.image_layout.specs.SoundRules.{code_rule}
+use Rattle.image_rules.specs.BuiltTrees.{column_code_checks}
+use Rattle.image_rules.proofs.ArrayWords.{has_arrays}
 use Rattle.image_rules.proofs.Gathered.{has_list}
 use Rattle.image_rules.proofs.PairChecks.{list_found, list_over, list_passes}
 use Rattle.image_rules.proofs.pair_rules.code_fault.Goals as goal
@@ -11,11 +13,15 @@ column_code_fault-requires-clause-list c =
     has_list c.args.words.now c.deref-column-items.result.now c.loop-column.column-index c.loop-column-test.true c.requires.tables c.requires.trees c.requires.logs (c.deref-column-items.ensures.value ∙ c.in_ok-columns.ensures.columns)
     c.in_ok-columns.columns.items c.deref-column-items.ensures.value c.in_ok-columns.ensures.within
 
+pub column_code_fault-requires-clause-arrays : goal.column_code_fault-requires-clause-arrays
+column_code_fault-requires-clause-arrays c =
+    has_arrays c.args.words.now c.deref-column-items.result.now c.loop-column.column-index c.loop-column-test.true c.requires.arrays (c.deref-column-items.ensures.value ∙ c.in_ok-columns.ensures.columns)
+
 pub loop-column-init : goal.loop-column-init
 loop-column-init c = refl
 
 pub returns-then-is_some : goal.returns-then-is_some
-unfolding built_code_rule
+unfolding code_rule
 returns-then-is_some c =
     let words = c.args.words.now in
     list_found (column_code_checks words) c.deref-column-items.result.now c.loop-column.column-index 0 c.in_ok-found.found c.loop-column-test.true c.loop-column.invariant c.in_ok-found.ensures (sym c.is_some.ensures ∙ c.if-is_some.true)
@@ -26,7 +32,7 @@ loop-column-preserved c =
     list_passes (column_code_checks c.args.words.now) c.deref-column-items.result.now c.loop-column.column-index 0 c.in_ok-found.found c.loop-column-test.true c.loop-column.invariant c.in_ok-found.ensures (sym c.is_some.ensures ∙ c.if-is_some.false)
 
 pub returns : goal.returns
-unfolding built_code_rule
+unfolding code_rule
 returns c =
     let words = c.args.words.now in
     list_over (column_code_checks words) c.deref-column-items.result.now c.loop-column.column-index 0 c.loop-column-test.false c.loop-column.invariant

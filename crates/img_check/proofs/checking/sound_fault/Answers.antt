@@ -39,6 +39,9 @@ pairs_fault-requires-clause-tables c = kept c.args.words.now c.standing_fault-st
 pub pairs_fault-requires-clause-slots : goal.pairs_fault-requires-clause-slots
 pairs_fault-requires-clause-slots c = kept c.args.words.now c.standing_fault-standing.result c.standing_fault-standing.ensures (sym c.is_some.ensures ∙ c.if-is_some.false) 8 (omega arith)
 
+pub pairs_fault-requires-clause-arrays : goal.pairs_fault-requires-clause-arrays
+pairs_fault-requires-clause-arrays c = kept c.args.words.now c.standing_fault-standing.result c.standing_fault-standing.ensures (sym c.is_some.ensures ∙ c.if-is_some.false) 9 (omega arith)
+
 pub pairs_fault-requires-clause-trees : goal.pairs_fault-requires-clause-trees
 pairs_fault-requires-clause-trees c = kept c.args.words.now c.standing_fault-standing.result c.standing_fault-standing.ensures (sym c.is_some.ensures ∙ c.if-is_some.false) 10 (omega arith)
 

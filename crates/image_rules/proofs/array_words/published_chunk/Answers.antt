@@ -1,6 +1,6 @@
 use Rattle.std.proofs.Common.{arith}
 use Rattle.image_rules.proofs.StampChecks.{published}
-use Rattle.image_rules.proofs.stamp_rules.published_chunk.Goals as goal
+use Rattle.image_rules.proofs.array_words.published_chunk.Goals as goal
 
 pub returns-clause-place : goal.returns-clause-place
 returns-clause-place c =
