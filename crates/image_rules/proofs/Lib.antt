@@ -26,6 +26,7 @@ pub mod OwnerWalk
 pub mod PairChecks
 pub mod RestChecks
 pub mod SoundFault
+pub mod SpareSlots
 pub mod SplitChecks
 pub mod StampChecks
 pub mod TableArrays

@@ -9,7 +9,7 @@ use Rattle.image_layout.specs.Tables.{all_columns, is_text}
 use Rattle.image_layout.specs.Trees.{integer_fingerprint, leaf_list, leaf_slots, slot_fingerprint, stored_leaves}
 use Rattle.image_layout.specs.Checks.{Check, Rule, check, first_failing}
 use Rattle.image_layout.specs.EntryRules.{leaf_checks}
-use Rattle.image_layout.specs.SoundRules.{UsedSlot, code_checks, column_slots, fingerprint_checks, order_checks}
+use Rattle.image_layout.specs.SoundRules.{UsedSlot, code_checks, column_slots, fingerprint_checks, order_checks, spare_slots, zero_check}
 use Rattle.image_rules.specs.declared.leaf_lists.LeafSlot.{LeafSlot}
 
 -- ── the rules ──
@@ -46,6 +46,11 @@ used_along words leaves = flat_map (used_in words) leaves
 -- 24, of a column
 abbrev pub column_code_checks : List ℕ → ℕ → List Check
 column_code_checks words column = code_checks words column [] (column_slots words column)
+
+-- 26, of a column
+abbrev pub column_spare_checks : List ℕ → ℕ → List Check
+column_spare_checks words column =
+    (if is_text words column then map (zero_check words) (spare_slots words column) else [])
 
 -- ── their parts ──
 

@@ -3,7 +3,7 @@ ghost use Rattle.std.specs.Prelude.{◌≡◌, ◌+◌, ◌%◌, ◌^◌, ◌<�
 ghost use Rattle.image_layout.specs.Arrays.{array_rule, chunk_words as words_of_chunk};
 ghost use Rattle.image_layout.specs.Checks.{Keeps};
 ghost use Rattle.image_rules.specs.ArrayWords.{word_place as word_place_of};
-ghost use Rattle.image_rules.specs.Stamps.{chunk_place};
+ghost use Rattle.image_rules.specs.Stamps.{chunk_place, stamp_of};
 
 use crate::pointers::pointed_words;
 use pm_model::{MAX_CHUNKS, Place, chunk_capacity, chunk_of, chunk_pointer, chunk_words};
@@ -51,4 +51,15 @@ pub(crate) fn word_place(words: &[u64], header: Place, index: u32) -> Option<u32
     let chunk = chunk_of(index);
     let offset = index - chunk_capacity(chunk);
     place_in_chunk(published_chunk(words, header, chunk), offset)
+}
+
+/// The word at a place, and 0 where none is published.
+pub(crate) fn word_or_zero(words: &[u64], at: Option<u32>) -> u64
+    requires { IfSome at (λ place. place < length words.now) }
+    ensures { result ≡ stamp_of words.now at }
+{
+    match at {
+        Some(place) => words[place as usize],
+        None => 0,
+    }
 }

@@ -22,6 +22,7 @@
 
 mod array_rules;
 mod array_words;
+mod dictionary_rules;
 mod distinct_rules;
 mod entry_rules;
 mod extensions;
@@ -46,6 +47,7 @@ mod table_rules;
 mod tree_rules;
 
 pub use array_rules::{arrays_fault, capacity};
+pub use dictionary_rules::spare_slot_fault;
 pub use distinct_rules::distinct_name_fault;
 pub use entry_rules::{entries_fault, next_segment, ready_count};
 pub use first_words::{last_fault, latest_version_fault, magic_fault, version_fault};

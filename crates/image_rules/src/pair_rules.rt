@@ -63,7 +63,8 @@ fn column_order_fault(alloc: Global, words: &[u64], column: u32) -> Result<Optio
     Ok(None)
 }
 
-fn is_text(words: &[u64], column: u32) -> bool
+/// Whether a column is one of texts.
+pub(crate) fn is_text(words: &[u64], column: u32) -> bool
     requires { column < length words.now }
     ensures { result ≡ tables.is_text words.now column }
 {

@@ -7,10 +7,10 @@ ghost use Rattle.image_layout.specs.Checks.{Keeps, first_failing};
 ghost use Rattle.image_layout.specs.EntryRules.{arrays_rule, table_count_rule, table_slot_rule};
 ghost use Rattle.image_layout.specs.SoundRules.{is_commit as commit_holds, is_created as created_holds, is_ended as ended_holds, is_row_bound, row_checks, stamp_checks, stamp_rule};
 ghost use Rattle.image_rules.specs.Parts.{IsTableBlock, table_arrays_rule};
-ghost use Rattle.image_rules.specs.Stamps.{place_checks, stamp_of};
+ghost use Rattle.image_rules.specs.Stamps.{place_checks};
 
 use crate::array_rules::capacity;
-use crate::array_words::{place_in_chunk, published_chunk};
+use crate::array_words::{place_in_chunk, published_chunk, word_or_zero};
 use crate::extensions::column_record;
 use crate::table_rules::{columns_of, published_tables, table_block};
 use image_layout::since;
@@ -124,25 +124,14 @@ fn row_fault(words: &[u64], stamped: bool, created: Option<u32>, ended: Option<u
     requires ended { IfSome ended (λ place. place < length words.now) }
     ensures { result ≡ first_failing (place_checks words.now stamped created ended) }
 {
-    let creator = stamp_at(words, created);
+    let creator = word_or_zero(words, created);
     if !is_created(words, stamped, creator) {
         return created;
     }
-    if !is_ended(words, stamped, creator, stamp_at(words, ended)) {
+    if !is_ended(words, stamped, creator, word_or_zero(words, ended)) {
         return ended;
     }
     None
-}
-
-// The stamp at a place, and 0 where none is published.
-fn stamp_at(words: &[u64], at: Option<u32>) -> u64
-    requires { IfSome at (λ place. place < length words.now) }
-    ensures { result ≡ stamp_of words.now at }
-{
-    match at {
-        Some(place) => words[place as usize],
-        None => 0,
-    }
 }
 
 // Whether a row can have this creator: none, and below the bound also that it is dead or a commit.

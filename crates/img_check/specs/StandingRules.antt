@@ -1,7 +1,7 @@
 -- The numbered rules of an image at rest, as far as they stand. They are tried in this order.
 use Rattle.std.specs.Prelude.{◌≡◌, ℕ, List, [], ◌∷◌, ◌++◌, None, Some}
 use Rattle.image_layout.specs.Checks.{Numbered, first_fault, numbered}
-use Rattle.image_layout.specs.SoundRules.{idle_rule, split_log_rule, closed_rule, code_rule, stamp_rule, given_back_rule, distinct_name_rule, latest_version_rule}
+use Rattle.image_layout.specs.SoundRules.{idle_rule, split_log_rule, closed_rule, code_rule, spare_slot_rule, stamp_rule, given_back_rule, distinct_name_rule, latest_version_rule}
 use Rattle.image_rules.specs.NumberedRules.{entry_rules}
 use Rattle.img_check.specs.declared.error.CheckError.{CheckError}
 use Rattle.img_check.specs.declared.error.CheckError.TheVariants.{Unsound, NoMemory as OutOfMemory}
@@ -26,6 +26,10 @@ abbrev pub pair_rules : List Numbered
 pair_rules =
     numbered 22 built_order_rule ∷ numbered 23 built_fingerprint_rule ∷ numbered 24 code_rule ∷ []
 
+-- dictionaries of texts have nothing behind their length
+abbrev pub dictionary_rules : List Numbered
+dictionary_rules = numbered 26 spare_slot_rule ∷ []
+
 -- stamps, pages that were given back, names, and the version
 abbrev pub content_rules : List Numbered
 content_rules =
@@ -33,7 +37,7 @@ content_rules =
     ∷ numbered 31 latest_version_rule ∷ []
 
 abbrev pub sound_rules : List Numbered
-sound_rules = rules_without_memory ++ owner_rules ++ pair_rules ++ content_rules
+sound_rules = rules_without_memory ++ owner_rules ++ pair_rules ++ dictionary_rules ++ content_rules
 
 -- why the words are refused: this is the first rule that they break, and the first place where they do; or memory ran
 -- out, and they keep the rules that are tried without it

@@ -5,13 +5,13 @@ ghost use Rattle.image_layout.specs.EntryRules.{table_count_rule, table_slot_rul
 ghost use Rattle.image_layout.specs.SoundRules.{split_log_rule};
 ghost use Rattle.image_rules.specs.NumberedRules.{told};
 ghost use Rattle.img_check.specs.declared.error.CheckError.TheVariants.{Unsound, NoMemory as OutOfMemory};
-ghost use Rattle.img_check.specs.StandingRules.{IsCauseOf, closing_rules, content_rules, owner_rules, pair_rules, rules_without_memory, sound_rules};
+ghost use Rattle.img_check.specs.StandingRules.{IsCauseOf, closing_rules, content_rules, dictionary_rules, owner_rules, pair_rules, rules_without_memory, sound_rules};
 
 use crate::error::CheckError;
 use image_rules::{
     RuleFault, closed_fault, code_fault, distinct_name_fault, entry_fault, fingerprint_fault,
     given_back_fault, idle_fault, latest_version_fault, order_fault, owned_fault, owner_fault,
-    single_owner_fault, split_log_fault, stamp_fault,
+    single_owner_fault, spare_slot_fault, split_log_fault, stamp_fault,
 };
 use pm_model::NoMemory;
 use std::alloc::Global;
@@ -20,7 +20,8 @@ use std::alloc::Global;
 /// (1 to 12, 14 and 15), and then that nothing is half done (16 to 18), that live blocks and the owner words of tables,
 /// arrays, leaves and transaction objects go together one to one (19 to 21), that the keys of columns of integers stand
 /// in order along the leaves of their trees (22) and have their fingerprints (23), that the codes of a column differ and
-/// each is that of its key word in the dictionary (24), that stamps are those of commits and stand below their table's bound, above which
+/// each is that of its key word in the dictionary (24), that dictionaries of texts have nothing behind their length (26),
+/// that stamps are those of commits and stand below their table's bound, above which
 /// no column begins (27), that pages which were given back are 0 (29), that names differ (30) and that the version is 2
 /// (31). An error names the first rule that the words break, and the place where they do.
 ///
@@ -62,6 +63,10 @@ fn sound_fault(alloc: Global, words: &[u64]) -> Result<Option<RuleFault>, NoMemo
     let pairs = pairs_fault(alloc, words)?;
     if pairs.is_some() {
         return Ok(pairs);
+    }
+    let dictionaries = dictionaries_fault(alloc, words)?;
+    if dictionaries.is_some() {
+        return Ok(dictionaries);
     }
     Ok(content_fault(words))
 }
@@ -144,6 +149,22 @@ fn pairs_fault(alloc: Global, words: &[u64]) -> Result<Option<RuleFault>, NoMemo
     }
     let uncoded = code_fault(alloc, words)?;
     Ok(RuleFault::of(24, uncoded))
+}
+
+// Of the rule 26.
+fn dictionaries_fault(alloc: Global, words: &[u64]) -> Result<Option<RuleFault>, NoMemory>
+    requires segments { length words.now % 32768 ≡ 0 }
+    requires one_or_more { 32768 ≤ length words.now }
+    requires most { length words.now ≤ 4194304 }
+    requires tables { Keeps words.now table_count_rule }
+    requires slots { Keeps words.now table_slot_rule }
+    requires arrays { Keeps words.now arrays_rule }
+    requires trees { Keeps words.now tree_rule }
+    requires logs { Keeps words.now split_log_rule }
+    ensures { IfOk result (λ found. told found ≡ first_fault dictionary_rules words.now) }
+{
+    let spare = spare_slot_fault(alloc, words)?;
+    Ok(RuleFault::of(26, spare))
 }
 
 // Of the rules 27 and 29 to 31.

@@ -329,7 +329,7 @@ fn pairs_in_leaves_are_tried(rt: HostRuntime) -> Result<(), Fail> {
 // The one value of a table, with a word changed.
 #[test]
 fn the_pair_of_one_value_is_tried(rt: HostRuntime) -> Result<(), Fail> {
-    let cases: [(&[Change], Told); 6] = [
+    let cases: [(&[Change], Told); 12] = [
         (&[], None),
         (&[(2048, 1)], Some((19, 2100))),
         (&[(2048, 7)], Some((21, 2312))),
@@ -339,6 +339,13 @@ fn the_pair_of_one_value_is_tried(rt: HostRuntime) -> Result<(), Fail> {
             &[(2101, LEAF), (2102, NEXT_LEAF), (2313, LEAF)],
             Some((17, 2101)),
         ),
+        // A dictionary of texts has nothing behind its values; one of integers may.
+        (&[(4097, 5), (4607, 5)], None),
+        (&[(2096, 2)], None),
+        (&[(2096, 2), (4097, 5)], Some((26, 4097))),
+        (&[(2096, 2), (4607, 5)], Some((26, 4607))),
+        (&[(2096, 2), (2184, 0)], Some((26, 4096))),
+        (&[(2096, 2), (4607, 5), (2057, 513)], Some((26, 4607))),
     ];
     for (changes, told) in cases {
         let found = told_of(rt.alloc(), &[&TABLE, &VALUE, changes])?;
